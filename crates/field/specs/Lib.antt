@@ -1,0 +1,5 @@
+pub mod Number
+pub mod Size
+pub mod Place
+pub mod Fault
+pub mod Agree
