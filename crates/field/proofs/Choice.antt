@@ -1,9 +1,10 @@
 -- Tests and what they choose: the facts that every layer cites.
 --     tests          the set that turns a fact into the value of a test
 --     on             the two cases of a test, each with its equation
---     cond-agree     two choices are equal where their tests are, and the branch that the test takes
+--     cond-holds     what holds of the branch that is taken holds of the choice
+--     cond-agree     two choices by one test are equal where the branches that it takes are
 --     left-step      what is left from i, where i is below n, is one more than what is left from i + 1
-use mathlib.Core.Path.{_≡_, refl, ap, _∙_}
+use mathlib.Core.Path.{_≡_, refl}
 use mathlib.Core.Bool.{Bool, true, false, cond}
 use Prim.Native.Nat.{ℕ, suc, _+_, _-_, _<_}
 use native.Mathlib.Omega.{arith}
@@ -15,9 +16,13 @@ pub on {ℓ} : {P : Type ℓ} (b : Bool) → (b ≡ true → P) → (b ≡ false
 on true f g = f refl
 on false f g = g refl
 
-pub cond-agree : {A : Type 0} {x x′ y y′ : A} (b b′ : Bool) → b ≡ b′ → (b ≡ true → x ≡ x′) → (b ≡ false → y ≡ y′) → cond b x y ≡ cond b′ x′ y′
-cond-agree {x′ = x′} {y′ = y′} true b′ e f g = f refl ∙ ap (λ (t : Bool). cond t x′ y′) e
-cond-agree {x′ = x′} {y′ = y′} false b′ e f g = g refl ∙ ap (λ (t : Bool). cond t x′ y′) e
+pub cond-holds : {A : Type 0} (P : A → Type 0) (b : Bool) {x y : A} → (b ≡ true → P x) → (b ≡ false → P y) → P (cond b x y)
+cond-holds P true f g = f refl
+cond-holds P false f g = g refl
+
+pub cond-agree : {A : Type 0} {x x′ y y′ : A} (b : Bool) → (b ≡ true → x ≡ x′) → (b ≡ false → y ≡ y′) → cond b x y ≡ cond b x′ y′
+cond-agree true f g = f refl
+cond-agree false f g = g refl
 
 pub left-step : {i n : ℕ} → i < n → n - i ≡ suc (n - (i + 1))
 left-step h = omega arith
