@@ -3,9 +3,10 @@
 --     on             the two cases of a test, each with its equation
 --     cond-holds     what holds of the branch that is taken holds of the choice
 --     cond-agree     two choices by one test are equal where the branches that it takes are
+--     or-left, or-right     a disjunction from one of its sides
 --     left-step      what is left from i, where i is below n, is one more than what is left from i + 1
 use mathlib.Core.Path.{_≡_, refl}
-use mathlib.Core.Bool.{Bool, true, false, cond}
+use mathlib.Core.Bool.{Bool, true, false, cond, _||_, or-true}
 use Prim.Native.Nat.{ℕ, suc, _+_, _-_, _<_}
 use native.Mathlib.Omega.{arith}
 use borrow.Author.Tests.{lt-ltb, le-ltb, le-leb, lt-leb, eq-eqb, ne-eqb}
@@ -23,6 +24,12 @@ cond-holds P false f g = g refl
 pub cond-agree : {A : Type 0} {x x′ y y′ : A} (b : Bool) → (b ≡ true → x ≡ x′) → (b ≡ false → y ≡ y′) → cond b x y ≡ cond b x′ y′
 cond-agree true f g = f refl
 cond-agree false f g = g refl
+
+pub or-left : {a : Bool} (b : Bool) → a ≡ true → (a || b) ≡ true
+or-left b e = rw e
+
+pub or-right : (a : Bool) {b : Bool} → b ≡ true → (a || b) ≡ true
+or-right a e = rw (e, or-true a)
 
 pub left-step : {i n : ℕ} → i < n → n - i ≡ suc (n - (i + 1))
 left-step h = omega arith

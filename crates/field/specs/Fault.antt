@@ -57,3 +57,8 @@ carriesOf NoSlot = 0
 
 abbrev pub faultOf : Refusal → Fault
 faultOf r = fault (numberOf r) (carriesOf r)
+
+-- an answer of document 01: what was asked for, or a refusal
+pub data Answer (A : Type 0) : Type 0 where
+  given : A → Answer A
+  refused : Fault → Answer A

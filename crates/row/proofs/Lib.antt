@@ -1,0 +1,4 @@
+pub mod Texts
+pub mod Sound
+pub mod Agree
+pub mod Laws

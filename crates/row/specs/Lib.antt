@@ -1,0 +1,6 @@
+pub mod Table
+pub mod Layout
+pub mod Check
+pub mod Record
+pub mod Slot
+pub mod Bytes
