@@ -1,9 +1,10 @@
 -- Facts of the check of a row that the layers above cite.
 --     empty-row      no row fits in no bytes
+--     good-some      a good row has a byte
 --     good-text      each slot of a row that is good holds a well-formed string
-use mathlib.Core.Path.{_≡_, refl, ap}
+use mathlib.Core.Path.{_≡_, refl, ap, sym, _∙_}
 use mathlib.Core.Bool.{true, false, false≢true}
-use mathlib.Core.List.{List, []}
+use mathlib.Core.List.{List, [], _∷_}
 use mathlib.Core.Logic.{⊎-elim}
 use Prim.Native.Nat.{ℕ, zero, suc, _+_, _<_, _≤_}
 use native.Mathlib.Omega.{arith}
@@ -36,6 +37,10 @@ empty-row Colors = refl
 empty-row PlaylistTree = refl
 empty-row PlaylistEntries = refl
 empty-row Artwork = refl
+
+pub good-some : (table : Table) (row : List ℕ) → checkRow table row ≡ Good → 0 < length row
+good-some table [] e = let z : _≡_ {A = ℕ} 14 0 = ap checkNumber (sym (empty-row table) ∙ e) in absurd (omega arith)
+good-some table (b ∷ row) e = omega arith
 
 texts-each : (row : List ℕ) (slots : Slots) (k slot j : ℕ) → textsHold row slots k slot ≡ true → slot ≤ j → j < slot + k → wellFormed (readText row (slotStart slots row j)) ≡ true
 unfolding textsHold

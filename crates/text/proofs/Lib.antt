@@ -1,3 +1,3 @@
 pub mod Inside
 pub mod Agree
-pub mod Cases
+pub mod Edges

@@ -1,0 +1,173 @@
+-- The agreement law of pages: two pages of one length that agree on the bytes that count are read alike.
+use mathlib.Core.Path.{_≡_, refl}
+use mathlib.Core.Bool.{true, false, _&&_, _||_, false≢true}
+use mathlib.Core.List.{List}
+use mathlib.Core.Logic.{⊎-elim}
+use Prim.Native.Nat.{ℕ, zero, suc, _+_, _-_, _<_, _≤_}
+use native.Mathlib.Nat.{eq-or-lt-of-le}
+use native.Mathlib.Omega.{arith}
+use lib.ListN.{length, take, drop, length-drop}
+use lib.Dec.{ltb, leb}
+use borrow.Author.Tests.{ltb-true, lt-ltb, le-leb}
+use Rattle.field.specs.Number.{byteAt, le16, le32}
+use Rattle.field.specs.Size.{heapStart}
+use Rattle.field.specs.Agree.{Agree, within}
+use Rattle.row.specs.declared.Table.{Table}
+use Rattle.row.specs.Check.{checkRow}
+use Rattle.row.specs.Bytes.{rowByte}
+use Rattle.page.specs.Header.{headerAgrees, rowless, entries}
+use Rattle.page.specs.Index.{indexSize, flagsAt, offsetAt, present, rowStart, presentFrom}
+use Rattle.page.specs.Read.{indexFits, beforeIndex, rowStarts, checkRows, readRows, readPage}
+use Rattle.page.specs.Bytes.{headerByte, rowByteAt, entryByte, entriesByte, pageByte}
+use Rattle.field.proofs.Choice.{on, cond-agree, or-left, or-right}
+use Rattle.field.proofs.Agree.{agree-less, agree-inside, take-agree, drop-agree, byte-agree, le16-agree, le32-agree}
+use Rattle.row.proofs.Agree.{check-agree}
+
+-- the header's fields, in file order
+module _ {s t : List ℕ} (a : Agree headerByte s t) where
+  page-index-agree : le32 s 0x04 ≡ le32 t 0x04
+  unfolding headerByte
+  page-index-agree = le32-agree 0x04 (agree-less (λ i e. or-left _ e) a)
+
+  type-agree : le32 s 0x08 ≡ le32 t 0x08
+  unfolding headerByte
+  type-agree = le32-agree 0x08 (agree-less (λ i e. or-right (within 0x04 4 i) (or-left _ e)) a)
+
+  pub next-page-agree : le32 s 0x0c ≡ le32 t 0x0c
+  unfolding headerByte
+  next-page-agree = le32-agree 0x0c (agree-less (λ i e. or-right (within 0x04 4 i) (or-right (within 0x08 4 i) (or-left _ e))) a)
+
+  small-agree : byteAt s 0x18 ≡ byteAt t 0x18
+  unfolding headerByte
+  small-agree = byte-agree 0x18 (agree-less (λ i e. or-right (within 0x04 4 i) (or-right (within 0x08 4 i) (or-right (within 0x0c 4 i) (or-left _ e)))) a)
+
+  flags-agree : byteAt s 0x1b ≡ byteAt t 0x1b
+  unfolding headerByte
+  flags-agree =
+      byte-agree 0x1b
+      (agree-less (λ i e. or-right (within 0x04 4 i) (or-right (within 0x08 4 i) (or-right (within 0x0c 4 i) (or-right (within 0x18 1 i) (or-left _ e))))) a)
+
+  large-agree : le16 s 0x22 ≡ le16 t 0x22
+  unfolding headerByte
+  large-agree =
+      le16-agree 0x22
+      (agree-less (λ i e. or-right (within 0x04 4 i) (or-right (within 0x08 4 i) (or-right (within 0x0c 4 i) (or-right (within 0x18 1 i) (or-right (within 0x1b 1 i) e))))) a)
+
+  header-agree : (number : ℕ) (table : Table) → headerAgrees number table s ≡ headerAgrees number table t
+  unfolding headerAgrees
+  header-agree number table = rw (page-index-agree, type-agree)
+
+  rowless-agree : rowless s ≡ rowless t
+  unfolding rowless
+  rowless-agree = rw flags-agree
+
+  entries-agree : entries s ≡ entries t
+  unfolding entries
+  entries-agree = rw (small-agree, large-agree)
+
+  fits-agree : indexFits s ≡ indexFits t
+  unfolding indexFits
+  fits-agree = rw (entries-agree, a .long)
+
+-- a byte of entry j is among those of the entries
+entry-byte : (table : Table) (page : List ℕ) (i k from j : ℕ) → from ≤ j → j < from + k → entryByte table page j i ≡ true → entriesByte table page k from i ≡ true
+unfolding entriesByte
+entry-byte table page i zero from j h l e = absurd (omega arith)
+entry-byte table page i (suc k) from j h l e =
+    ⊎-elim (λ q. or-left (entriesByte table page k (from + 1) i) (rw (← q) at e))
+    (λ q. or-right (entryByte table page from i) (entry-byte table page i k (from + 1) j (omega arith) (omega arith) e))
+    (eq-or-lt-of-le h)
+
+-- byte i of a row's part is byte start + i of the page
+row-byte : (table : Table) (rows : List ℕ) (start i : ℕ) → (ltb i (length (drop start rows)) && rowByte table (drop start rows) i) ≡ true → rowByteAt table rows start (start + i) ≡ true
+unfolding rowByteAt
+row-byte table rows start i e = on (ltb i (length (drop start rows))) here (λ f. absurd (false≢true (rw f at e)))
+  where
+    here : ltb i (length (drop start rows)) ≡ true → (leb start (start + i) && (ltb (start + i) (length rows) && rowByte table (drop start rows) (start + i - start))) ≡ true
+    here f =
+        let inside : start + i < length rows = omega (arith, ltb-true i (length (drop start rows)) f, length-drop start rows) in
+        let back : start + i - start ≡ i = omega arith in
+        rw (le-leb start (start + i) (omega arith), lt-ltb (start + i) (length rows) inside, back) (rw f at e)
+
+-- one entry: its flag, its row's start and its row
+module _ (table : Table) {s t : List ℕ} (j : ℕ) (a : Agree (entryByte table s j) s t) where
+  flags-at : flagsAt s j ≡ flagsAt t j
+  unfolding flagsAt
+  flags-at = rw (a .long)
+
+  present-agree : present s j ≡ present t j
+  unfolding present entryByte
+  present-agree = rw (le16-agree (flagsAt s j) (agree-less (λ i e. or-left _ e) a), flags-at)
+
+  module _ (p : present s j ≡ true) where
+    present-byte : (i : ℕ) → (within (offsetAt s j) 2 i || rowByteAt table (beforeIndex s) (rowStart s j) i) ≡ true → entryByte table s j i ≡ true
+    unfolding entryByte
+    present-byte i e = or-right (within (flagsAt s j) 2 i) (rw (p, e))
+
+    start-agree : rowStart s j ≡ rowStart t j
+    unfolding rowStart offsetAt
+    start-agree = rw (le16-agree (offsetAt s j) (agree-less (λ i e. present-byte i (or-left _ e)) a), flags-at)
+
+    row-agree : (limit : ℕ) → beforeIndex s ≡ take limit s → checkRow table (drop (rowStart s j) (take limit s)) ≡ checkRow table (drop (rowStart s j) (take limit t))
+    row-agree limit before = check-agree table (agree-inside (agree-less byte (drop-agree (rowStart s j) (take-agree limit a))))
+      where
+        byte : (i : ℕ) → (ltb i (length (drop (rowStart s j) (take limit s))) && rowByte table (drop (rowStart s j) (take limit s)) i) ≡ true → entryByte table s j (rowStart s j + i) ≡ true
+        byte i e = present-byte (rowStart s j + i) (or-right (within (offsetAt s j) 2 (rowStart s j + i)) (rw before (row-byte table (take limit s) (rowStart s j) i e)))
+
+before : (page : List ℕ) → beforeIndex page ≡ take (length page - indexSize (entries page)) page
+unfolding beforeIndex
+before page = refl
+
+-- all entries
+module _ (table : Table) {s t : List ℕ} (n : ℕ) (each : (j : ℕ) → j < n → Agree (entryByte table s j) s t) where
+  starts-agree : (k j : ℕ) → j + k ≤ n → presentFrom s k j ≡ presentFrom t k j
+  unfolding presentFrom
+  starts-agree zero j h = refl
+  starts-agree (suc k) j h =
+      let rest = starts-agree k (j + 1) (omega arith) in
+      let e = each j (omega arith) in
+      rw (← present-agree table j e, rest) (cond-agree (present s j) (λ p. rw (start-agree table j e p)) (λ p. refl))
+
+  rows-agree : (limit : ℕ) → beforeIndex s ≡ take limit s → (k j : ℕ) → j + k ≤ n → checkRows table (take limit s) (presentFrom s k j) ≡ checkRows table (take limit t) (presentFrom s k j)
+  unfolding presentFrom checkRows
+  rows-agree limit before zero j h = refl
+  rows-agree limit before (suc k) j h =
+      let rest = rows-agree limit before k (j + 1) (omega arith) in
+      on (present s j) (λ p. rw (p, row-agree table j (each j (omega arith)) p limit before, rest)) (λ p. rw (p, rest))
+
+-- a page whose header agrees
+module _ (number : ℕ) (table : Table) {s t : List ℕ} (a : Agree (pageByte number table s) s t) where
+  headers : Agree headerByte s t
+  unfolding pageByte
+  headers = agree-less (λ i e. or-left _ e) a
+
+  index-bytes : headerAgrees number table s ≡ true → rowless s ≡ false → indexFits s ≡ true → (j : ℕ) → j < entries s → Agree (entryByte table s j) s t
+  unfolding pageByte
+  index-bytes h r f j l = agree-less (λ i e. or-right (headerByte i) (rw (h, r, f, entry-byte table s i (entries s) 0 j (omega arith) (omega arith) e))) a
+
+  before-agree : beforeIndex t ≡ take (length s - indexSize (entries s)) t
+  unfolding beforeIndex
+  before-agree = rw (← a .long, ← entries-agree headers)
+
+  pub starts-same : headerAgrees number table s ≡ true → rowStarts s ≡ rowStarts t
+  unfolding rowStarts
+  starts-same h =
+      rw (← rowless-agree headers, ← fits-agree headers, ← entries-agree headers)
+      (cond-agree (rowless s) (λ _. refl)
+      (λ r. cond-agree (indexFits s) (λ f. starts-agree table (entries s) (index-bytes h r f) (entries s) 0 (omega arith)) (λ _. refl)))
+
+  checks-same : headerAgrees number table s ≡ true → checkRows table (beforeIndex s) (rowStarts s) ≡ checkRows table (beforeIndex t) (rowStarts s)
+  unfolding checkRows rowStarts
+  checks-same h =
+      on (rowless s) (λ r. rw r)
+      (λ r. on (indexFits s) (λ f. rw (r, f, before s, before-agree) (rows-agree table (entries s) (index-bytes h r f) (length s - indexSize (entries s)) (before s) (entries s) 0 (omega arith))) (λ f. rw (r, f)))
+
+  rows-same : headerAgrees number table s ≡ true → readRows number table s ≡ readRows number table t
+  unfolding readRows
+  rows-same h = rw (checks-same h, starts-same h, rowless-agree headers, fits-agree headers, a .long)
+
+  pub read-agree : readPage number table s ≡ readPage number table t
+  unfolding readPage
+  read-agree =
+      rw (← a .long, ← header-agree headers number table)
+      (cond-agree (ltb (length s) heapStart) (λ _. refl) (λ _. cond-agree (headerAgrees number table s) (λ h. rows-same h) (λ _. refl)))

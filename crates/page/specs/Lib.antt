@@ -1,0 +1,4 @@
+pub mod Header
+pub mod Index
+pub mod Read
+pub mod Bytes
