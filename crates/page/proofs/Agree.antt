@@ -1,6 +1,6 @@
 -- The agreement law of pages: two pages of one length that agree on the bytes that count are read alike.
 use mathlib.Core.Path.{_≡_, refl}
-use mathlib.Core.Bool.{true, false, _&&_, _||_, false≢true}
+use mathlib.Core.Bool.{true, false, _&&_, _||_, or-true, false≢true}
 use mathlib.Core.List.{List}
 use mathlib.Core.Logic.{⊎-elim}
 use Prim.Native.Nat.{ℕ, zero, suc, _+_, _-_, _<_, _≤_}
@@ -31,27 +31,23 @@ module _ {s t : List ℕ} (a : Agree headerByte s t) where
 
   type-agree : le32 s 0x08 ≡ le32 t 0x08
   unfolding headerByte
-  type-agree = le32-agree 0x08 (agree-less (λ i e. or-right (within 0x04 4 i) (or-left _ e)) a)
+  type-agree = le32-agree 0x08 (agree-less (λ i e. simp (e, or-true)) a)
 
   pub next-page-agree : le32 s 0x0c ≡ le32 t 0x0c
   unfolding headerByte
-  next-page-agree = le32-agree 0x0c (agree-less (λ i e. or-right (within 0x04 4 i) (or-right (within 0x08 4 i) (or-left _ e))) a)
+  next-page-agree = le32-agree 0x0c (agree-less (λ i e. simp (e, or-true)) a)
 
   small-agree : byteAt s 0x18 ≡ byteAt t 0x18
   unfolding headerByte
-  small-agree = byte-agree 0x18 (agree-less (λ i e. or-right (within 0x04 4 i) (or-right (within 0x08 4 i) (or-right (within 0x0c 4 i) (or-left _ e)))) a)
+  small-agree = byte-agree 0x18 (agree-less (λ i e. simp (e, or-true)) a)
 
   flags-agree : byteAt s 0x1b ≡ byteAt t 0x1b
   unfolding headerByte
-  flags-agree =
-      byte-agree 0x1b
-      (agree-less (λ i e. or-right (within 0x04 4 i) (or-right (within 0x08 4 i) (or-right (within 0x0c 4 i) (or-right (within 0x18 1 i) (or-left _ e))))) a)
+  flags-agree = byte-agree 0x1b (agree-less (λ i e. simp (e, or-true)) a)
 
   large-agree : le16 s 0x22 ≡ le16 t 0x22
   unfolding headerByte
-  large-agree =
-      le16-agree 0x22
-      (agree-less (λ i e. or-right (within 0x04 4 i) (or-right (within 0x08 4 i) (or-right (within 0x0c 4 i) (or-right (within 0x18 1 i) (or-right (within 0x1b 1 i) e))))) a)
+  large-agree = le16-agree 0x22 (agree-less (λ i e. simp (e, or-true)) a)
 
   header-agree : (number : ℕ) (table : Table) → headerAgrees number table s ≡ headerAgrees number table t
   unfolding headerAgrees
