@@ -2,3 +2,4 @@ pub mod Choice
 pub mod Number
 pub mod Agree
 pub mod Part
+pub mod Any

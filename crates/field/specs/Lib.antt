@@ -3,3 +3,4 @@ pub mod Size
 pub mod Place
 pub mod Fault
 pub mod Agree
+pub mod Any

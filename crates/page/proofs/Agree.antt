@@ -2,9 +2,7 @@
 use mathlib.Core.Path.{_≡_, refl}
 use mathlib.Core.Bool.{true, false, _&&_, _||_, or-true, false≢true}
 use mathlib.Core.List.{List}
-use mathlib.Core.Logic.{⊎-elim}
 use Prim.Native.Nat.{ℕ, zero, suc, _+_, _-_, _<_, _≤_}
-use native.Mathlib.Nat.{eq-or-lt-of-le}
 use native.Mathlib.Omega.{arith}
 use lib.ListN.{length, take, drop, length-drop}
 use lib.Dec.{ltb, leb}
@@ -19,6 +17,7 @@ use Rattle.page.specs.Header.{headerAgrees, rowless, entries}
 use Rattle.page.specs.Index.{indexSize, flagsAt, offsetAt, present, rowStart, presentFrom}
 use Rattle.page.specs.Read.{indexFits, beforeIndex, rowStarts, checkRows, readRows, readPage}
 use Rattle.page.specs.Bytes.{headerByte, rowByteAt, entryByte, entriesByte, pageByte}
+use Rattle.field.proofs.Any.{any-at}
 use Rattle.field.proofs.Choice.{on, cond-agree, or-left, or-right}
 use Rattle.field.proofs.Agree.{agree-less, agree-inside, take-agree, drop-agree, byte-agree, le16-agree, le32-agree}
 use Rattle.row.proofs.Agree.{check-agree}
@@ -64,15 +63,6 @@ module _ {s t : List ℕ} (a : Agree headerByte s t) where
   fits-agree : indexFits s ≡ indexFits t
   unfolding indexFits
   fits-agree = rw (entries-agree, a .long)
-
--- a byte of entry j is among those of the entries
-entry-byte : (table : Table) (page : List ℕ) (i k from j : ℕ) → from ≤ j → j < from + k → entryByte table page j i ≡ true → entriesByte table page k from i ≡ true
-unfolding entriesByte
-entry-byte table page i zero from j h l e = absurd (omega arith)
-entry-byte table page i (suc k) from j h l e =
-    ⊎-elim (λ q. or-left (entriesByte table page k (from + 1) i) (rw (← q) at e))
-    (λ q. or-right (entryByte table page from i) (entry-byte table page i k (from + 1) j (omega arith) (omega arith) e))
-    (eq-or-lt-of-le h)
 
 -- byte i of a row's part is byte start + i of the page
 row-byte : (table : Table) (rows : List ℕ) (start i : ℕ) → (ltb i (length (drop start rows)) && rowByte table (drop start rows) i) ≡ true → rowByteAt table rows start (start + i) ≡ true
@@ -138,8 +128,8 @@ module _ (number : ℕ) (table : Table) {s t : List ℕ} (a : Agree (pageByte nu
   headers = agree-less (λ i e. or-left _ e) a
 
   index-bytes : headerAgrees number table s ≡ true → rowless s ≡ false → indexFits s ≡ true → (j : ℕ) → j < entries s → Agree (entryByte table s j) s t
-  unfolding pageByte
-  index-bytes h r f j l = agree-less (λ i e. or-right (headerByte i) (rw (h, r, f, entry-byte table s i (entries s) 0 j (omega arith) (omega arith) e))) a
+  unfolding pageByte entriesByte
+  index-bytes h r f j l = agree-less (λ i e. or-right (headerByte i) (rw (h, r, f, any-at (λ (k : ℕ). entryByte table s k i) (entries s) 0 j (omega arith) (omega arith) e))) a
 
   before-agree : beforeIndex t ≡ take (length s - indexSize (entries s)) t
   unfolding beforeIndex

@@ -1,10 +1,11 @@
 -- Document 01, "What an answer may depend on": the bytes of a page that count, for a page of this number read for this table.
-use mathlib.Core.Bool.{Bool, false, not, _&&_, _||_}
+use mathlib.Core.Bool.{Bool, not, _&&_, _||_}
 use mathlib.Core.List.{List}
-use Prim.Native.Nat.{ℕ, zero, suc, _+_, _-_}
+use Prim.Native.Nat.{ℕ, _-_}
 use lib.ListN.{length, drop}
 use lib.Dec.{ltb, leb}
 use Rattle.field.specs.Agree.{within}
+use Rattle.field.specs.Any.{anyFrom}
 use Rattle.row.specs.declared.Table.{Table}
 use Rattle.row.specs.Bytes.{rowByte}
 use Rattle.page.specs.Header.{headerAgrees, rowless, entries}
@@ -24,12 +25,11 @@ unfoldable pub entryByte : Table → List ℕ → ℕ → ℕ → Bool
 entryByte table page j i =
     within (flagsAt page j) 2 i || (present page j && (within (offsetAt page j) 2 i || rowByteAt table (beforeIndex page) (rowStart page j) i))
 
--- a byte of the k entries from j on
-unfoldable pub entriesByte : Table → List ℕ → ℕ → ℕ → ℕ → Bool
-entriesByte table page zero j i = false
-entriesByte table page (suc k) j i = entryByte table page j i || entriesByte table page k (j + 1) i
+-- a byte of one of the entries
+unfoldable pub entriesByte : Table → List ℕ → ℕ → Bool
+entriesByte table page i = anyFrom (λ (j : ℕ). entryByte table page j i) (entries page) 0
 
 -- nothing beyond the header where the header disagrees, flag `40` is set or the index does not fit
 unfoldable pub pageByte : ℕ → Table → List ℕ → ℕ → Bool
 pageByte number table page i =
-    headerByte i || (headerAgrees number table page && (not (rowless page) && (indexFits page && entriesByte table page (entries page) 0 i)))
+    headerByte i || (headerAgrees number table page && (not (rowless page) && (indexFits page && entriesByte table page i)))

@@ -2,9 +2,7 @@
 use mathlib.Core.Path.{_≡_, refl, ap, _∙_}
 use mathlib.Core.Bool.{true}
 use mathlib.Core.List.{List}
-use mathlib.Core.Logic.{⊎-elim}
-use Prim.Native.Nat.{ℕ, zero, suc, _+_, _*_, _<_, _≤_}
-use native.Mathlib.Nat.{eq-or-lt-of-le}
+use Prim.Native.Nat.{ℕ, _+_, _*_, _<_, _≤_}
 use native.Mathlib.Omega.{arith}
 use lib.ListN.{length}
 use lib.Dec.{ltb, eqb}
@@ -21,23 +19,15 @@ use Rattle.row.specs.declared.Layout.{Layout}
 use Rattle.row.specs.declared.Layout.the-variants.{Known, Unknown}
 use Rattle.row.specs.declared.Record.the-variants as kind
 use Rattle.row.specs.Layout.{artistLayout, layoutOf, slotsIn, slotStart}
-use Rattle.row.specs.Check.{textsHold, checkLayout, checkRow}
+use Rattle.row.specs.Check.{malformed, badText, checkLayout, checkRow}
 use Rattle.row.specs.Record.{recordOf}
 use Rattle.row.specs.Slot.{layoutText, slotText}
 use Rattle.row.specs.Bytes.{slotByte, layoutByte, rowByte}
+use Rattle.field.proofs.Any.{any-at, any-agree}
 use Rattle.field.proofs.Choice.{cond-holds, cond-agree, or-left, or-right}
 use Rattle.field.proofs.Agree.{agree-less, within-less, byte-agree, le16-agree, le32-agree}
 use Rattle.text.proofs.Agree.{read-agree}
 use Rattle.row.proofs.Sound.{OffsetsIn, SoundLayout, layout-sound}
-
--- a byte of a slot's string is among the bytes of the slots
-slot-byte : (row : List ℕ) (slots : Slots) (i k slot j : ℕ) → slot ≤ j → j < slot + k → textByte row (slotStart slots row j) i ≡ true → slotByte row slots k slot i ≡ true
-unfolding slotByte
-slot-byte row slots i zero slot j h l e = absurd (omega arith)
-slot-byte row slots i (suc k) slot j h l e =
-    ⊎-elim (λ q. or-left (slotByte row slots k (slot + 1) i) (rw (← q) at e))
-    (λ q. or-right (textByte row (slotStart slots row slot) i) (slot-byte row slots i k (slot + 1) j (omega arith) (omega arith) e))
-    (eq-or-lt-of-le h)
 
 -- the first bytes of a row are among its bytes, whatever its layout
 artist-first : (s : List ℕ) (i : ℕ) → within 0 0x0a i ≡ true → layoutByte s (artistLayout s) i ≡ true
@@ -94,19 +84,21 @@ start-agree fixed (WordOffsets count at) a inside slot h =
     n16 (fixed-agree fixed (WordOffsets count at) a) (at + 2 * slot) (omega arith)
 
 text-agree : {s t : List ℕ} (fixed : ℕ) (slots : Slots) → Agree (layoutByte s (Known fixed slots)) s t → OffsetsIn fixed slots → (slot : ℕ) → slot < slotsIn slots → readText s (slotStart slots s slot) ≡ readText t (slotStart slots t slot)
+unfolding slotByte
 text-agree {s} {t} fixed slots a inside slot h = read-agree (slotStart slots s slot) (agree-less byte a) ∙ ap (readText t) (start-agree fixed slots a inside slot h)
   where
     byte : (i : ℕ) → textByte s (slotStart slots s slot) i ≡ true → layoutByte s (Known fixed slots) i ≡ true
-    byte i e = or-right (within 0 fixed i) (slot-byte s slots i (slotsIn slots) 0 slot (omega arith) (omega arith) e)
+    byte i e = or-right (within 0 fixed i) (any-at (λ (j : ℕ). textByte s (slotStart slots s j) i) (slotsIn slots) 0 slot (omega arith) (omega arith) e)
 
-texts-agree : (s t : List ℕ) (slots : Slots) → ((slot : ℕ) → slot < slotsIn slots → readText s (slotStart slots s slot) ≡ readText t (slotStart slots t slot)) → (k slot : ℕ) → slot + k ≤ slotsIn slots → textsHold s slots k slot ≡ textsHold t slots k slot
-unfolding textsHold
-texts-agree s t slots e zero slot h = refl
-texts-agree s t slots e (suc k) slot h = rw (e slot (omega arith), texts-agree s t slots e k (slot + 1) (omega arith))
+bad-agree : {s t : List ℕ} (fixed : ℕ) (slots : Slots) → Agree (layoutByte s (Known fixed slots)) s t → OffsetsIn fixed slots → badText s slots ≡ badText t slots
+unfolding badText
+bad-agree {s} {t} fixed slots a inside =
+    any-agree (λ (j : ℕ). malformed (readText s (slotStart slots s j))) (λ (j : ℕ). malformed (readText t (slotStart slots t j))) (slotsIn slots) 0
+    (λ j h l. ap malformed (text-agree fixed slots a inside j (omega arith)))
 
 check-layout : {s t : List ℕ} (table : Table) (l : Layout) → SoundLayout table l → Agree (layoutByte s l) s t → checkLayout s l ≡ checkLayout t l
-check-layout {s} {t} table (Known fixed slots) sound a =
-    rw (a .long, texts-agree s t slots (text-agree fixed slots a (sound .offsets)) (slotsIn slots) 0 (omega arith))
+check-layout table (Known fixed slots) sound a =
+    rw (a .long, bad-agree fixed slots a (sound .offsets))
 check-layout table Unknown sound a = refl
 
 pub check-agree : (table : Table) {s t : List ℕ} → Agree (rowByte table s) s t → checkRow table s ≡ checkRow table t

@@ -3,12 +3,10 @@
 --     good-some      a good row has a byte
 --     good-text      each slot of a row that is good holds a well-formed string
 use mathlib.Core.Path.{_≡_, refl, ap, sym, _∙_}
-use mathlib.Core.Bool.{true, false, false≢true}
+use mathlib.Core.Bool.{false}
 use mathlib.Core.List.{List, [], _∷_}
-use mathlib.Core.Logic.{⊎-elim}
-use Prim.Native.Nat.{ℕ, zero, suc, _+_, _<_, _≤_}
+use Prim.Native.Nat.{ℕ, _<_}
 use native.Mathlib.Omega.{arith}
-use native.Mathlib.Nat.{eq-or-lt-of-le}
 use lib.ListN.{length}
 use lib.Dec.{ltb}
 use borrow.Author.Tests.{lt-ltb}
@@ -20,8 +18,9 @@ use Rattle.row.specs.declared.Layout.{Layout}
 use Rattle.row.specs.declared.Layout.the-variants.{Known, Unknown}
 use Rattle.row.specs.declared.Check.the-variants.{Good, RowFault}
 use Rattle.row.specs.Layout.{artistLayout, layoutOf, slotCount, slotsIn, slotStart}
-use Rattle.row.specs.Check.{wellFormed, textsHold, checkLayout, checkRow, checkNumber}
+use Rattle.row.specs.Check.{malformed, badText, checkLayout, checkRow, checkNumber}
 use Rattle.row.specs.Slot.{layoutText, slotText}
+use Rattle.field.proofs.Any.{any-not}
 use Rattle.field.proofs.Choice.{on}
 use Rattle.row.proofs.Sound.{SoundLayout, layout-sound}
 
@@ -42,25 +41,17 @@ pub good-some : (table : Table) (row : List ℕ) → checkRow table row ≡ Good
 good-some table [] e = let z : _≡_ {A = ℕ} 14 0 = ap checkNumber (sym (empty-row table) ∙ e) in absurd (omega arith)
 good-some table (b ∷ row) e = omega arith
 
-texts-each : (row : List ℕ) (slots : Slots) (k slot j : ℕ) → textsHold row slots k slot ≡ true → slot ≤ j → j < slot + k → wellFormed (readText row (slotStart slots row j)) ≡ true
-unfolding textsHold
-texts-each row slots zero slot j e h l = absurd (omega arith)
-texts-each row slots (suc k) slot j e h l =
-    on (wellFormed (readText row (slotStart slots row slot)))
-    (λ f. ⊎-elim (λ q. rw (← q) f) (λ q. texts-each row slots k (slot + 1) j (rw f at e) (omega arith) (omega arith)) (eq-or-lt-of-le h))
-    (λ f. absurd (false≢true (rw f at e)))
-
-good-texts : (row : List ℕ) (fixed : ℕ) (slots : Slots) → checkLayout row (Known fixed slots) ≡ Good → textsHold row slots (slotsIn slots) 0 ≡ true
+good-texts : (row : List ℕ) (fixed : ℕ) (slots : Slots) → checkLayout row (Known fixed slots) ≡ Good → badText row slots ≡ false
 good-texts row fixed slots e =
     on (ltb (length row) fixed) (λ f. let z : _≡_ {A = ℕ} 14 0 = ap checkNumber (rw f at e) in absurd (omega arith))
-    (λ f. on (textsHold row slots (slotsIn slots) 0) (λ g. g) (λ g. let z : _≡_ {A = ℕ} 15 0 = ap checkNumber (rw (f, g) at e) in absurd (omega arith)))
+    (λ f. on (badText row slots) (λ g. let z : _≡_ {A = ℕ} 15 0 = ap checkNumber (rw (f, g) at e) in absurd (omega arith)) (λ g. g))
 
-pub good-text : (table : Table) (row : List ℕ) (slot : ℕ) → checkRow table row ≡ Good → slot < slotCount table → wellFormed (slotText table row slot) ≡ true
-unfolding checkRow slotText
+pub good-text : (table : Table) (row : List ℕ) (slot : ℕ) → checkRow table row ≡ Good → slot < slotCount table → malformed (slotText table row slot) ≡ false
+unfolding checkRow slotText badText
 good-text table row slot e h = go (layoutOf table row) (layout-sound table row) e
   where
-    go : (l : Layout) → SoundLayout table l → checkLayout row l ≡ Good → wellFormed (layoutText row slot l) ≡ true
+    go : (l : Layout) → SoundLayout table l → checkLayout row l ≡ Good → malformed (layoutText row slot l) ≡ false
     go (Known fixed slots) sound g =
         let inside : slot < slotsIn slots = rw (sound .count) h in
-        rw (lt-ltb slot (slotsIn slots) inside) (texts-each row slots (slotsIn slots) 0 slot (good-texts row fixed slots g) (omega arith) (omega arith))
+        rw (lt-ltb slot (slotsIn slots) inside) (any-not (λ (s : ℕ). malformed (readText row (slotStart slots row s))) (slotsIn slots) 0 slot (good-texts row fixed slots g) (omega arith) (omega arith))
     go Unknown sound g = let z : _≡_ {A = ℕ} 14 0 = ap checkNumber g in absurd (omega arith)

@@ -1,4 +1,3 @@
-pub mod Texts
 pub mod Sound
 pub mod Agree
 pub mod Laws

@@ -1,9 +1,10 @@
 -- Document 01, Row index: "Its fixed part must end at or before the index (14); then each of its strings, slot by slot, is checked (15)."
 use mathlib.Core.Bool.{Bool, true, false, cond}
 use mathlib.Core.List.{List}
-use Prim.Native.Nat.{ℕ, zero, suc, _+_}
+use Prim.Native.Nat.{ℕ}
 use lib.ListN.{length}
 use lib.Dec.{ltb}
+use Rattle.field.specs.Any.{anyFrom}
 use Rattle.text.specs.declared.Text.{Text}
 use Rattle.text.specs.declared.Text.the-variants.{At, Malformed}
 use Rattle.text.specs.Text.{readText}
@@ -15,17 +16,16 @@ use Rattle.row.specs.declared.Check.{Check}
 use Rattle.row.specs.declared.Check.the-variants.{Good, RowFault, TextFault}
 use Rattle.row.specs.Layout.{layoutOf, slotsIn, slotStart}
 
-abbrev pub wellFormed : Text → Bool
-wellFormed (At place len encoding) = true
-wellFormed Malformed = false
+abbrev pub malformed : Text → Bool
+malformed (At place len encoding) = false
+malformed Malformed = true
 
--- is true exactly when each of the k slots from slot on holds a well-formed string
-unfoldable pub textsHold : List ℕ → Slots → ℕ → ℕ → Bool
-textsHold row slots zero slot = true
-textsHold row slots (suc k) slot = cond (wellFormed (readText row (slotStart slots row slot))) (textsHold row slots k (slot + 1)) false
+-- is true exactly when a slot holds a malformed string
+unfoldable pub badText : List ℕ → Slots → Bool
+badText row slots = anyFrom (λ (slot : ℕ). malformed (readText row (slotStart slots row slot))) (slotsIn slots) 0
 
 abbrev pub checkLayout : List ℕ → Layout → Check
-checkLayout row (Known fixed slots) = cond (ltb (length row) fixed) RowFault (cond (textsHold row slots (slotsIn slots) 0) Good TextFault)
+checkLayout row (Known fixed slots) = cond (ltb (length row) fixed) RowFault (cond (badText row slots) TextFault Good)
 checkLayout row Unknown = RowFault
 
 unfoldable pub checkRow : Table → List ℕ → Check

@@ -5,7 +5,7 @@ ghost use Prim.Native.Nat.{_+_, _*_};
 ghost use Rattle.field.specs.Number.{le16};
 ghost use Rattle.row.specs.Table.{tableNumber, tableOf, askedOf};
 ghost use Rattle.row.specs.Layout.{layoutOf, artistLayout, slotCount, slotsIn, slotStart};
-ghost use Rattle.row.specs.Check.{textsHold, checkRow};
+ghost use Rattle.row.specs.Check.{badText, checkRow};
 ghost use Rattle.row.specs.Record.{trackOf, recordOf};
 ghost use Rattle.row.specs.Slot.{textIn, slotText};
 use field::Refusal;
@@ -166,20 +166,20 @@ fn artist_layout(row: &[u8]) -> Layout
     }
 }
 
-// Whether each slot of a row holds a well-formed string.
-fn texts_hold(row: &[u8], slots: Slots) -> bool
-    ensures { λ r. ⌜ r ≡ textsHold (now (row .entry)) slots (slotsIn slots) 0 ⌝ }
+// Whether a slot of a row holds a malformed string.
+fn has_bad_text(row: &[u8], slots: Slots) -> bool
+    ensures { λ r. ⌜ r ≡ badText (now (row .entry)) slots ⌝ }
 {
     let count = slots.count();
     let mut slot: u8 = 0;
     while slot < count {
         let found = text::read(row, slots.start(row, slot));
         if let Text::Malformed = found {
-            return false;
+            return true;
         }
         slot += 1;
     }
-    true
+    false
 }
 
 fn text_of(row: &[u8], slots: Slots, slot: usize) -> Text
@@ -334,10 +334,10 @@ impl Table {
                 if row.len() < fixed {
                     return Check::RowFault;
                 }
-                if texts_hold(row, slots) {
-                    Check::Good
-                } else {
+                if has_bad_text(row, slots) {
                     Check::TextFault
+                } else {
+                    Check::Good
                 }
             }
             Layout::Unknown => Check::RowFault,

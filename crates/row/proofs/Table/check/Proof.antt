@@ -15,8 +15,8 @@ returns : tie.Need-returns
 unfolding checkRow
 returns c = rw (← c .before .before .before .before .layout .ensures, c .before .before .layout2 .given .1, lt-ltb _ _ (c .if1 .taken))
 
-texts-hold-requires : tie.Need-texts-hold-requires
-texts-hold-requires c κs = search needs
+has-bad-text-requires : tie.Need-has-bad-text-requires
+has-bad-text-requires c κs = search needs
 
 enum-told : tie.Need-enum-told
 enum-told c = search needs
@@ -25,13 +25,13 @@ returns-2 : tie.Need-returns-2
 unfolding checkRow
 returns-2 c =
     let known = c .before .before in
-    rw (← known .before .before .before .before .layout .ensures, known .before .before .layout2 .given .1, le-ltb _ _ (known .if1 .left), ← c .before .texts-hold .ensures, c .if2 .taken)
+    rw (← known .before .before .before .before .layout .ensures, known .before .before .layout2 .given .1, le-ltb _ _ (known .if1 .left), ← c .before .has-bad-text .ensures, c .if2 .taken)
 
 returns-3 : tie.Need-returns-3
 unfolding checkRow
 returns-3 c =
     let known = c .before .before in
-    rw (← known .before .before .before .before .layout .ensures, known .before .before .layout2 .given .1, le-ltb _ _ (known .if1 .left), ← c .before .texts-hold .ensures, c .if2 .left)
+    rw (← known .before .before .before .before .layout .ensures, known .before .before .layout2 .given .1, le-ltb _ _ (known .if1 .left), ← c .before .has-bad-text .ensures, c .if2 .left)
 
 returns-4 : tie.Need-returns-4
 unfolding checkRow
@@ -44,7 +44,7 @@ check-spec =
     layout-requires
     enum-known-layout
     returns
-    texts-hold-requires
+    has-bad-text-requires
     enum-told
     returns-2
     returns-3
