@@ -1,6 +1,6 @@
 -- Laws of `anyFrom`: one number at a time, as a loop goes, and all at once.
 --     any-here, any-next, any-end     what is left from i, where the test holds at i, where it does not, and where nothing is left
---     any-at, any-not                 one number that passes the test, and none
+--     any-at, any-none, any-not       one number passes the test; none does
 --     any-agree                       two tests that agree on the run
 --     Looking, look-..                the invariant of a loop that looks for such a number
 use mathlib.Core.Path.{_≡_, refl, sym, _∙_}
@@ -30,6 +30,11 @@ module _ (test : ℕ → Bool) where
   any-at zero i j h l e = absurd (omega arith)
   any-at (suc k) i j h l e =
       ⊎-elim (λ q. or-left (anyFrom test k (i + 1)) (rw (← q) at e)) (λ q. or-right (test i) (any-at k (i + 1) j (omega arith) (omega arith) e)) (eq-or-lt-of-le h)
+
+  pub any-none : (k i : ℕ) → ((j : ℕ) → i ≤ j → j < i + k → test j ≡ false) → anyFrom test k i ≡ false
+  unfolding anyFrom
+  any-none zero i h = refl
+  any-none (suc k) i h = rw (h i (omega arith) (omega arith)) (any-none k (i + 1) (λ j l g. h j (omega arith) (omega arith)))
 
   pub any-not : (k i j : ℕ) → anyFrom test k i ≡ false → i ≤ j → j < i + k → test j ≡ false
   any-not k i j e h l = on (test j) (λ f. absurd (false≢true (sym e ∙ any-at k i j h l f))) (λ f. f)

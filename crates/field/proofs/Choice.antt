@@ -4,9 +4,11 @@
 --     cond-holds     what holds of the branch that is taken holds of the choice
 --     cond-agree     two choices by one test are equal where the branches that it takes are
 --     or-left, or-right     a disjunction from one of its sides
+--     never          anything, from two constructors that would be equal
+--     both-true      the parts of a conjunction that is true
 --     left-step      what is left from i, where i is below n, is one more than what is left from i + 1
 use mathlib.Core.Path.{_≡_, refl}
-use mathlib.Core.Bool.{Bool, true, false, cond, _||_, or-true}
+use mathlib.Core.Bool.{Bool, true, false, cond, _&&_, _||_, or-true}
 use Prim.Native.Nat.{ℕ, suc, _+_, _-_, _<_}
 use native.Mathlib.Omega.{arith}
 use borrow.Author.Tests.{lt-ltb, le-ltb, le-leb, lt-leb, eq-eqb, ne-eqb}
@@ -30,6 +32,14 @@ or-left b e = rw e
 
 pub or-right : (a : Bool) {b : Bool} → b ≡ true → (a || b) ≡ true
 or-right a e = rw (e, or-true a)
+
+-- two constructors are never equal: `cc` gives 0 ≡ 1, and anything follows
+pub never {ℓ} : {A : Type ℓ} → _≡_ {A = ℕ} 0 1 → A
+never z = absurd (omega arith)
+
+pub both-true : (a b : Bool) → (a && b) ≡ true → (a ≡ true) × (b ≡ true)
+both-true true b e = (refl, e)
+both-true false b e = never (cc)
 
 pub left-step : {i n : ℕ} → i < n → n - i ≡ suc (n - (i + 1))
 left-step h = omega arith

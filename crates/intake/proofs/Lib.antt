@@ -1,0 +1,16 @@
+pub mod Digit
+pub mod Bit
+pub mod Count
+pub mod SpareBits
+pub mod Accepted
+pub mod OpenSound
+pub mod EqualBytes
+pub mod Copying
+pub mod Delivering
+pub mod Image
+pub mod AfterDelivery
+pub mod ReceivedBlocks
+pub mod HoldsLaws
+pub mod Determined
+pub mod Runs
+pub mod PastCounted

@@ -1,0 +1,32 @@
+-- `intake::check_lengths` meets its contract: refusals 1, 2 and 3, test by test.
+use borrow.Author.Needs.{needs}
+use Rattle.intake.specs.Check.{openFault}
+use Rattle.field.proofs.Choice.{tests}
+use Rattle.intake.proofs.check_lengths.Statement.{statement}
+use Rattle.intake.proofs.check_lengths.Tie as tie
+
+allowed-requires : tie.Need-allowed-requires
+allowed-requires c κs = search needs
+
+returns : tie.Need-returns
+unfolding openFault
+returns c = search (tests, ← c .before .allowed .ensures, c .if1 .taken)
+
+returns-2 : tie.Need-returns-2
+unfolding openFault
+returns-2 c = search (tests, ← c .before .before .allowed .ensures, c .before .if1 .left)
+
+counted-requires : tie.Need-counted-requires
+counted-requires c κs = search needs
+
+returns-3 : tie.Need-returns-3
+unfolding openFault
+returns-3 c = search (tests, ← c .before .before .before .before .allowed .ensures, ← c .before .counted .ensures, c .before .before .before .if1 .left)
+
+returns-4 : tie.Need-returns-4
+unfolding openFault
+returns-4 c = search (tests, ← c .before .before .before .before .allowed .ensures, ← c .before .counted .ensures, c .before .before .before .if1 .left)
+
+pub check-lengths-spec : {M : Type 1} → statement M
+check-lengths-spec =
+    tie.close (tie.spec allowed-requires returns returns-2 counted-requires returns-3 returns-4)

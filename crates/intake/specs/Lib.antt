@@ -1,0 +1,14 @@
+pub mod Length
+pub mod Bit
+pub mod Spare
+pub mod Count
+pub mod Check
+pub mod Open
+pub mod Memory
+pub mod Equal
+pub mod Deliver
+pub mod Counted
+pub mod Added
+pub mod Received
+pub mod Holds
+pub mod Run
