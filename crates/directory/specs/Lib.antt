@@ -1,0 +1,4 @@
+pub mod Header
+pub mod Directory
+pub mod Pointer
+pub mod Bytes
