@@ -4,4 +4,3 @@ pub mod Places
 pub mod Cases
 pub mod Laws
 pub mod Agree
-pub mod Edges

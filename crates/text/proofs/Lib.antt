@@ -1,3 +1,2 @@
 pub mod Inside
 pub mod Agree
-pub mod Edges

@@ -1,0 +1,106 @@
+// Runs the cases of document 01's "Near the edges" and writes a line for each: C1 to C12 in order, then the other ones.
+use intake::Opened;
+use libc::STDOUT_FILENO;
+use page::PageRead;
+use row::Check;
+use row::Table;
+use text::Text;
+
+fn say(word: &[u8], n: u64) {
+    io::write_all(STDOUT_FILENO, word);
+    io::print_decimal(STDOUT_FILENO, n);
+    io::write_all(STDOUT_FILENO, b"\n");
+}
+
+fn say_open(len: u64, image: &[u8], map: &mut [u64]) {
+    match intake::open(len, image, map) {
+        Opened::Open { intake: _, blocks } => say(b"open ", blocks),
+        Opened::Refused(refusal) => say(b"refused ", refusal.number() as u64),
+    }
+}
+
+// Makes the page number 1 of a table of genres, with these counts of entries.
+fn set_header(page: &mut [u8], small: u8, large: u16) {
+    if page.len() < 0x24 {
+        return;
+    }
+    page[0x04] = 1;
+    page[0x08] = 1;
+    page[0x18] = small;
+    page[0x22] = (large % 256) as u8;
+    page[0x23] = (large / 256) as u8;
+}
+
+fn say_page(page: &mut [u8], small: u8, large: u16) {
+    set_header(page, small, large);
+    match page::read(page, 1, Table::Genres) {
+        PageRead::Rows(rows) => say(b"rows ", rows as u64),
+        PageRead::Refused(refusal) => say(b"refused ", refusal.number() as u64),
+    }
+}
+
+fn say_part(row: &[u8], place: usize, len: usize) {
+    io::write_all(STDOUT_FILENO, b"text ");
+    if place <= row.len() {
+        if len <= row.len() - place {
+            io::write_all(STDOUT_FILENO, &row[place..place + len]);
+        }
+    }
+    io::write_all(STDOUT_FILENO, b"\n");
+}
+
+// A genre row: four bytes of id, then the string.
+fn say_name(row: &[u8]) {
+    match Table::Genres.check(row) {
+        Check::Good => {
+            let found = Table::Genres.text(row, 0);
+            match found {
+                Text::At {
+                    place,
+                    len,
+                    encoding: _,
+                } => say_part(row, place, len),
+                Text::Malformed => say(b"malformed ", 0),
+            }
+        }
+        Check::RowFault => say(b"refused ", 14),
+        Check::TextFault => say(b"refused ", 15),
+    }
+}
+
+fn openings(image: &[u8], map: &mut [u64]) {
+    say_open(0, image, map);
+    say_open(512, image, map);
+    say_open(268_435_968, image, map);
+    say_open(32_768, image, map);
+}
+
+fn pages(page: &mut [u8]) {
+    say_page(page, 0, 0);
+    say_page(page, 208, 0);
+    say_page(page, 209, 0);
+    say_page(page, 5, 0x1fff);
+    say_page(page, 5, 300);
+}
+
+fn names() {
+    say_name(&[7, 0, 0, 0, 0x03]);
+    say_name(&[7, 0, 0, 0, 0x01]);
+    say_name(&[7, 0, 0, 0, 0x09, 0x41, 0x42, 0x43]);
+    say_name(&[7, 0, 0, 0, 0x90, 0x05, 0x00, 0x00, 0x41]);
+}
+
+fn more_names() {
+    say_name(&[7, 0, 0, 0, 0x40, 0x06, 0x00, 0x00, 0x41, 0x42]);
+    say_name(&[7, 0, 0, 0, 0x40, 0x03, 0x00, 0x00]);
+}
+
+fn main() {
+    let image = [0u8; 32768];
+    let mut map = [0u64; 1];
+    openings(&image, &mut map);
+    let mut page = [0u8; 512];
+    pages(&mut page);
+    names();
+    more_names();
+}
