@@ -1,4 +1,5 @@
 pub mod Header
 pub mod Index
 pub mod Read
+pub mod Row
 pub mod Bytes

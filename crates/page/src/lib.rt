@@ -6,7 +6,8 @@ ghost use lib.ListN.{length, set, take, drop};
 ghost use Rattle.field.specs.Size.{heapStart, groupSize};
 ghost use Rattle.page.specs.Header.{next-page, headerAgrees, rowless, entries};
 ghost use Rattle.page.specs.Index.{indexSize, present, rowStart, presentFrom};
-ghost use Rattle.page.specs.Read.{checkRows, unlessRefused, places, rowPlaces, readRows, readPage, counted, pageAnswer, written};
+ghost use Rattle.page.specs.Row.{rowAmong, rowOf};
+ghost use Rattle.page.specs.Read.{beforeIndex, checkRows, unlessRefused, places, rowPlaces, readRows, readPage, counted, pageAnswer, written};
 ghost use Rattle.row.specs.Check.{checkRow};
 use field::Page;
 use field::Refusal;
@@ -18,6 +19,12 @@ use row::Table;
 pub enum PageRead {
     Rows(usize),
     Refused(Refusal),
+}
+
+// Row k of a page: its start in the page, or how many rows the page has.
+pub enum RowAt {
+    Start(usize),
+    Past(usize),
 }
 
 fn header_agrees(page: &[u8], number: u32, table: Table) -> bool
@@ -193,6 +200,51 @@ pub fn fill(page: &[u8], start: u32, list: &mut [u32]) -> usize
         return 0;
     }
     fill_rows(page, start, n, list)
+}
+
+// Finds row k among the present rows of n entries.
+fn find_row(page: &[u8], n: u16, k: usize) -> RowAt
+    requires { ⌜ heapStart + indexSize n ≤ length (now page) ⌝ }
+    ensures { λ r. ⌜ r ≡ rowAmong (presentFrom (now (page .entry)) n 0) k 0 ⌝ }
+{
+    let mut i: u16 = 0;
+    let mut found: usize = 0;
+    while i < n {
+        if is_present(page, i) {
+            if found == k {
+                return RowAt::Start(row_start(page, i));
+            }
+            found += 1;
+        }
+        i += 1;
+    }
+    RowAt::Past(found)
+}
+
+// Row k of a page, counted from 0 among its present rows.
+pub fn row(page: &[u8], k: usize) -> RowAt
+    ensures { λ r. ⌜ r ≡ rowOf (now (page .entry)) k ⌝ }
+{
+    if is_rowless(page) {
+        return RowAt::Past(0);
+    }
+    let n = entry_count(page);
+    if page.len() < Page::HEAP + index_size(n) {
+        return RowAt::Past(0);
+    }
+    find_row(page, n, k)
+}
+
+// The part of a page before its row index, in which its rows lie.
+pub fn before_index(page: &[u8]) -> &[u8]
+    ensures { λ r. ⌜ now r ≡ beforeIndex (now (page .entry)) ⌝ }
+{
+    let size = index_size(entry_count(page));
+    if page.len() < size {
+        return &page[..0];
+    }
+    let end = page.len() - size;
+    &page[..end]
 }
 
 // The next page of the chain.
