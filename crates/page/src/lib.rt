@@ -6,7 +6,7 @@ ghost use lib.ListN.{length, set, take, drop};
 ghost use Rattle.field.specs.Size.{heapStart, groupSize};
 ghost use Rattle.page.specs.Header.{next-page, headerAgrees, rowless, entries};
 ghost use Rattle.page.specs.Index.{indexSize, present, rowStart, presentFrom};
-ghost use Rattle.page.specs.Row.{rowAmong, rowOf};
+ghost use Rattle.page.specs.Row.{rowAmong, rowOf, Near};
 ghost use Rattle.page.specs.Read.{beforeIndex, checkRows, unlessRefused, places, rowPlaces, readRows, readPage, counted, pageAnswer, written};
 ghost use Rattle.row.specs.Check.{checkRow};
 use field::Page;
@@ -205,7 +205,7 @@ pub fn fill(page: &[u8], start: u32, list: &mut [u32]) -> usize
 // Finds row k among the present rows of n entries.
 fn find_row(page: &[u8], n: u16, k: usize) -> RowAt
     requires { ⌜ heapStart + indexSize n ≤ length (now page) ⌝ }
-    ensures { λ r. ⌜ r ≡ rowAmong (presentFrom (now (page .entry)) n 0) k 0 ⌝ }
+    ensures { λ r. ⌜ (r ≡ rowAmong (presentFrom (now (page .entry)) n 0) k 0) × Near r ⌝ }
 {
     let mut i: u16 = 0;
     let mut found: usize = 0;
@@ -223,7 +223,7 @@ fn find_row(page: &[u8], n: u16, k: usize) -> RowAt
 
 // Row k of a page, counted from 0 among its present rows.
 pub fn row(page: &[u8], k: usize) -> RowAt
-    ensures { λ r. ⌜ r ≡ rowOf (now (page .entry)) k ⌝ }
+    ensures { λ r. ⌜ (r ≡ rowOf (now (page .entry)) k) × Near r ⌝ }
 {
     if is_rowless(page) {
         return RowAt::Past(0);

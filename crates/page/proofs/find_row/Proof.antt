@@ -28,7 +28,7 @@ returns : tie.Need-returns Inv-loop μ-loop
 returns c =
     let test = c .before .before in
     let turn = test .before .before in
-    here (turn .before .loop .inv) (turn .loop-test .taken) (sym (test .before .is-present .ensures) ∙ test .if1 .taken) (c .row-start .ensures .0) (c .before .if2 .taken)
+    (here (turn .before .loop .inv) (turn .loop-test .taken) (sym (test .before .is-present .ensures) ∙ test .if1 .taken) (c .row-start .ensures .0) (c .before .if2 .taken), c .row-start .ensures .1)
 
 add-found : tie.Need-add-found Inv-loop μ-loop
 add-found c = search needs
@@ -49,7 +49,7 @@ loop-again c =
     (c .if1 .came)
 
 returns-2 : tie.Need-returns-2 Inv-loop μ-loop
-returns-2 c = end (c .before .loop .inv) (c .loop-test .left)
+returns-2 c = (end (c .before .loop .inv) (c .loop-test .left), tt)
 
 pub find-row-spec : {M : Type 1} → statement M
 find-row-spec =

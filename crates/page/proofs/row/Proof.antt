@@ -16,7 +16,7 @@ returns : tie.Need-returns
 unfolding rowOf
 returns c =
     let a = c .before .before .before .args in
-    rw (starts-rowless (a .page .now) (sym (c .before .is-rowless .ensures) ∙ c .if1 .taken), leb·suc-zero (a .k))
+    (rw (starts-rowless (a .page .now) (sym (c .before .is-rowless .ensures) ∙ c .if1 .taken), leb·suc-zero (a .k)), tt)
 
 entry-count-requires : tie.Need-entry-count-requires
 entry-count-requires c κs = search needs
@@ -33,7 +33,7 @@ returns-2 c =
     let index = c .before in
     let rows = index .before .before in
     let a = rows .before .before .before .args in
-    rw (starts-unfit (a .page .now) (sym (rows .before .is-rowless .ensures) ∙ rows .if1 .left) (index .before .entry-count .ensures) (index .index-size .ensures) (c .if2 .taken), leb·suc-zero (a .k))
+    (rw (starts-unfit (a .page .now) (sym (rows .before .is-rowless .ensures) ∙ rows .if1 .left) (index .before .entry-count .ensures) (index .index-size .ensures) (c .if2 .taken), leb·suc-zero (a .k)), tt)
 
 find-row-requires : tie.Need-find-row-requires
 find-row-requires c κs = search needs
@@ -44,7 +44,7 @@ returns-3 c =
     let index = c .before .before in
     let rows = index .before .before in
     let a = rows .before .before .before .args in
-    rw (starts-fit (a .page .now) (sym (rows .before .is-rowless .ensures) ∙ rows .if1 .left) (index .before .entry-count .ensures) (index .index-size .ensures) (c .before .if2 .left)) (c .find-row .ensures)
+    (rw (starts-fit (a .page .now) (sym (rows .before .is-rowless .ensures) ∙ rows .if1 .left) (index .before .entry-count .ensures) (index .index-size .ensures) (c .before .if2 .left)) (c .find-row .ensures .0), c .find-row .ensures .1)
 
 pub row-spec : {M : Type 1} → statement M
 row-spec =
