@@ -40,7 +40,7 @@ few-rows page =
     cond-holds (λ (l : List ℕ). length l ≤ entries page) (rowless page) (λ e. omega arith)
     (λ e. cond-holds (λ (l : List ℕ). length l ≤ entries page) (indexFits page) (λ f. from-few page (entries page) 0) (λ f. omega arith))
 
-before-short : (page : List ℕ) → length (beforeIndex page) ≤ length page
+pub before-short : (page : List ℕ) → length (beforeIndex page) ≤ length page
 unfolding beforeIndex
 before-short page = omega (arith, length-take (length page - indexSize (entries page)) page)
 

@@ -1,0 +1,14 @@
+pub mod PagesMet
+pub mod Steps
+pub mod Fuel
+pub mod Congruence
+pub mod Growth
+pub mod Passed
+pub mod Faults
+pub mod Going
+pub mod PageParts
+pub mod Holding
+pub mod Reading
+pub mod Stores
+pub mod Writing
+pub mod Permitted

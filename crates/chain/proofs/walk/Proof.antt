@@ -1,0 +1,141 @@
+-- `chain::walk` meets its contract, by the loop's invariant `Going` (proofs/Going): each way out is one of its laws.
+use mathlib.Core.Path.{sym, _∙_}
+use mathlib.Core.Logic.{⊎-elim, inl, inr}
+use Prim.Native.Nat.{_-_}
+use native.Mathlib.Omega.{arith}
+use borrow.Author.Needs.{needs}
+use borrow.Author.Tests.{not-true, not-false}
+use Rattle.chain.specs.File.{filePages}
+use Rattle.chain.proofs.Going.{Going, begin, outside, stopped, going-on, rows-room, missing, faulty, at-last, onward}
+use Rattle.chain.proofs.PageParts.{part-next}
+use Rattle.chain.proofs.Reading.{read-given, read-refused, found-low}
+use Rattle.chain.proofs.walk.Statement.{statement}
+use Rattle.chain.proofs.walk.Tie as tie
+
+abbrev Inv-loop : tie.InvT-loop
+Inv-loop size count first last table image map page₀ holder₀ rows₀ pages₀ mark₀ page holder rows pages mark =
+    Going (filePages size count last table image map) first rows pages mark holder page
+
+abbrev μ-loop : tie.MeasureT-loop
+μ-loop size count first last table image map page₀ holder₀ rows₀ pages₀ mark₀ page holder rows pages mark =
+    0x1_0000_0000 - pages
+
+loop-holds : tie.Need-loop-holds Inv-loop μ-loop
+loop-holds c = begin _ _ (omega arith)
+
+link-inside-requires : tie.Need-link-inside-requires Inv-loop μ-loop
+link-inside-requires c κs = search needs
+
+is-again-requires : tie.Need-is-again-requires Inv-loop μ-loop
+is-again-requires c κs = search needs
+
+returns : tie.Need-returns Inv-loop μ-loop
+returns c =
+    let test = c .before .before in
+    stopped (test .before .before .loop .inv) (sym (test .before .link-inside .ensures) ∙ test .if1 .taken) (c .before .is-again .ensures) (c .if2 .taken)
+
+is-held-requires : tie.Need-is-held-requires Inv-loop μ-loop
+is-held-requires c κs = search needs
+
+returns-2 : tie.Need-returns-2 Inv-loop μ-loop
+returns-2 c =
+    let test = c .before .before .before .before in
+    missing (test .before .before .loop .inv) (sym (test .before .link-inside .ensures) ∙ test .if1 .taken) (sym (c .before .is-held .ensures) ∙ not-true _ (c .if3 .taken))
+
+part-requires : tie.Need-part-requires Inv-loop μ-loop
+part-requires c κs = search needs
+
+read-requires : tie.Need-read-requires Inv-loop μ-loop
+read-requires c κs = search needs
+
+enum-known-refusal : tie.Need-enum-known-refusal Inv-loop μ-loop
+enum-known-refusal c = search needs
+
+returns-3 : tie.Need-returns-3 Inv-loop μ-loop
+returns-3 c =
+    let read = c in
+    let held = read .before .before .before .before .before in
+    let again = held .before .before in
+    let test = again .before .before in
+    let inv = test .before .before .loop .inv in
+    let inside = sym (test .before .link-inside .ensures) ∙ test .if1 .taken in
+    faulty inv inside (sym (held .before .is-held .ensures) ∙ not-false _ (held .if3 .left)) _ (read-refused _ _ _ _ (read .before .before .before .before .part .ensures) (read .before .before .before .read .ensures) (read .before .refusal .given .1))
+
+enum-known-found : tie.Need-enum-known-found Inv-loop μ-loop
+enum-known-found c = search needs
+
+add-rows : tie.Need-add-rows Inv-loop μ-loop
+add-rows c =
+    let read = c in
+    let held = read .before .before .before .before .before in
+    let again = held .before .before in
+    let test = again .before .before in
+    let inv = test .before .before .loop .inv in
+    let start = test .before .before .before .before .before in
+    let args = start .args in
+    let count = read-given _ _ _ _ (read .before .before .before .before .part .ensures) (read .before .before .before .read .ensures) (read .before .found .given .1) in
+    let few = found-low (args .size) (args .image .now) (test .before .before .loop .page) (args .table) (read .before .found .given .0 .0) count in
+    let left = going-on inv (again .before .is-again .ensures) (again .if2 .left) in
+    record { fits = rows-room inv left (omega (arith, few, start .fits)) }
+
+add-pages : tie.Need-add-pages Inv-loop μ-loop
+add-pages c = omega (arith, c .before .before .before .before .before .before .before .before .before .before .before .loop .inv .room)
+
+returns-4 : tie.Need-returns-4 Inv-loop μ-loop
+returns-4 c =
+    let read = c .before in
+    let held = read .before .before .before .before .before in
+    let again = held .before .before in
+    let test = again .before .before in
+    let inv = test .before .before .loop .inv in
+    let inside = sym (test .before .link-inside .ensures) ∙ test .if1 .taken in
+    at-last inv inside (sym (held .before .is-held .ensures) ∙ not-false _ (held .if3 .left)) (read-given _ _ _ _ (read .before .before .before .before .part .ensures) (read .before .before .before .read .ensures) (read .before .found .given .1)) (c .if4 .taken)
+
+next-requires : tie.Need-next-requires Inv-loop μ-loop
+next-requires c κs = search needs
+
+loop-less : tie.Need-loop-less Inv-loop μ-loop
+loop-less c = omega (arith, c .before .before .before .before .before .before .before .before .before .before .before .before .before .before .loop .inv .room)
+
+loop-again : tie.Need-loop-again Inv-loop μ-loop
+loop-again c =
+    let read = c .before .before .before in
+    let held = read .before .before .before .before .before in
+    let again = held .before .before in
+    let test = again .before .before in
+    let inv = test .before .before .loop .inv in
+    let inside = sym (test .before .link-inside .ensures) ∙ test .if1 .taken in
+    let start = test .before .before .before .before .before in
+    let args = start .args in
+    let count = read-given _ _ _ _ (read .before .before .before .before .part .ensures) (read .before .before .before .read .ensures) (read .before .found .given .1) in
+    let few = found-low (args .size) (args .image .now) (test .before .before .loop .page) (args .table) (read .before .found .given .0 .0) count in
+    let left = going-on inv (again .before .is-again .ensures) (again .if2 .left) in
+    onward inv inside (sym (held .before .is-held .ensures) ∙ not-false _ (held .if3 .left)) count (omega arith) left (omega (arith, few, start .fits)) (c .before .before .if4 .left) (part-next _ _ _ (read .before .before .before .before .part .ensures) (c .next .ensures)) (⊎-elim (λ w. inr (w .1)) (λ w. inl (w .1)) (c .before .if5 .came))
+
+returns-5 : tie.Need-returns-5 Inv-loop μ-loop
+returns-5 c = outside (c .before .before .loop .inv) (sym (c .before .link-inside .ensures) ∙ c .if1 .left)
+
+pub walk-spec : {M : Type 1} → statement M
+walk-spec =
+    tie.close
+    (tie.spec
+    Inv-loop
+    μ-loop
+    loop-holds
+    link-inside-requires
+    is-again-requires
+    returns
+    is-held-requires
+    returns-2
+    part-requires
+    read-requires
+    enum-known-refusal
+    returns-3
+    enum-known-found
+    add-rows
+    add-pages
+    returns-4
+    next-requires
+    loop-less
+    loop-again
+    returns-5)

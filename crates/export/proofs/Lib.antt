@@ -1,0 +1,12 @@
+pub mod Start
+pub mod Blocks
+pub mod TableWalk
+pub mod Found
+pub mod FoundRows
+pub mod Questions
+pub mod Placing
+pub mod Settling
+pub mod Locating
+pub mod RowParts
+pub mod RowFound
+pub mod TextInside

@@ -1,0 +1,22 @@
+use borrow.Author.Needs.{needs}
+use Rattle.export.proofs.row_at.Statement.{statement}
+use Rattle.export.proofs.row_at.Tie as tie
+
+place-in-table-requires : tie.Need-place-in-table-requires
+place-in-table-requires c κs = search needs
+
+enum-known-place : tie.Need-enum-known-place
+enum-known-place c = search needs
+
+enum-told : tie.Need-enum-told
+enum-told c = search needs
+
+returns : tie.Need-returns
+returns c = rw (← c .before .before .before .place-in-table .ensures, c .before .place .given .1)
+
+returns-2 : tie.Need-returns-2
+returns-2 c = rw (← c .before .before .place-in-table .ensures, c .enum-told .given .1)
+
+pub row-at-spec : {M : Type 1} → statement M
+row-at-spec =
+    tie.close (tie.spec place-in-table-requires enum-known-place enum-told returns returns-2)

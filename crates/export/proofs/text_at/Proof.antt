@@ -1,0 +1,54 @@
+use native.Mathlib.Omega.{arith}
+use borrow.Author.Needs.{needs}
+use Rattle.export.proofs.TextInside.{text-within}
+use Rattle.export.proofs.text_at.Statement.{statement}
+use Rattle.export.proofs.text_at.Tie as tie
+
+page-size-requires : tie.Need-page-size-requires
+page-size-requires c κs = search needs
+
+row-part-requires : tie.Need-row-part-requires
+row-part-requires c κs = search needs
+
+text-requires : tie.Need-text-requires
+text-requires c κs = search needs
+
+enum-known-found : tie.Need-enum-known-found
+enum-known-found c = search needs
+
+add-t13 : tie.Need-add-t13
+add-t13 c =
+    let text = c .before .before .before in
+    let a = text .before .before .before .before .args in
+    let inside = text-within (a .table) (text .before .row-part .result .now) (a .slot) (rw (c .before .found .given .1) at (text .text .ensures)) in
+    omega (arith, text .before .row-part .ok)
+
+enum-told : tie.Need-enum-told
+enum-told c = search needs
+
+page-of-requires : tie.Need-page-of-requires
+page-of-requires c κs = search needs
+
+returns : tie.Need-returns
+returns c =
+    let text = c .before .before .before in
+    rw (← text .before .before .page-size .ensures, ← text .before .row-part .ensures, ← text .text .ensures, c .before .found .given .1)
+
+returns-2 : tie.Need-returns-2
+returns-2 c =
+    let text = c .before .before .before in
+    rw (← text .before .before .page-size .ensures, ← text .before .row-part .ensures, ← text .text .ensures, c .before .enum-told .given .1, c .page-of .ensures)
+
+pub text-at-spec : {M : Type 1} → statement M
+text-at-spec =
+    tie.close
+    (tie.spec
+    page-size-requires
+    row-part-requires
+    text-requires
+    enum-known-found
+    add-t13
+    enum-told
+    page-of-requires
+    returns
+    returns-2)

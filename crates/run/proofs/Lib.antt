@@ -1,0 +1,4 @@
+pub mod Files
+pub mod Received
+pub mod Kept
+pub mod Demand

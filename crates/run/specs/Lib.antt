@@ -1,0 +1,4 @@
+pub mod Call
+pub mod File
+pub mod Later
+pub mod Demand
