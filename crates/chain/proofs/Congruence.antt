@@ -7,15 +7,16 @@ use Prim.Native.Nat.{ℕ, zero, suc}
 use lib.Dec.{eqb}
 use borrow.Author.Tests.{not-false}
 use Rattle.field.specs.Fault.{Answer}
-use Rattle.chain.specs.Walk.{Pages, Walk, linkInside, isMet, readThen, walk, walkFrom}
+use Rattle.field.specs.Place.{linkable}
+use Rattle.chain.specs.Walk.{Pages, Walk, isMet, readThen, walk, walkFrom}
 use Rattle.field.proofs.Choice.{cond-agree}
 
 pub record SameHeld (a b : Pages) : Type 0 where
   pub count : a .count ≡ b .count
   pub last : a .last ≡ b .last
-  pub held : (page : ℕ) → linkInside (a .count) page ≡ true → a .held page ≡ b .held page
-  pub read : (page : ℕ) → linkInside (a .count) page ≡ true → a .held page ≡ true → a .read page ≡ b .read page
-  pub next : (page : ℕ) → linkInside (a .count) page ≡ true → a .held page ≡ true → a .next page ≡ b .next page
+  pub held : (page : ℕ) → linkable (a .count) page ≡ true → a .held page ≡ b .held page
+  pub read : (page : ℕ) → linkable (a .count) page ≡ true → a .held page ≡ true → a .read page ≡ b .read page
+  pub next : (page : ℕ) → linkable (a .count) page ≡ true → a .held page ≡ true → a .next page ≡ b .next page
 
 cond-same : {A : Type 0} {x x′ y y′ : A} {p q : Bool} → p ≡ q → (p ≡ true → x ≡ x′) → (p ≡ false → y ≡ y′) → cond p x y ≡ cond q x′ y′
 cond-same {p = p} e f g = rw (← e) (cond-agree p f g)
@@ -28,8 +29,8 @@ module _ {a b : Pages} (s : SameHeld a b) where
   unfolding walk
   walk-same zero met holder page = refl
   walk-same (suc fuel) met holder page =
-      cond-same (ap (λ (n : ℕ). not (linkInside n page)) (s .count)) (λ _. refl)
-      (λ i. let inside = not-false (linkInside (a .count) page) i in
+      cond-same (ap (λ (n : ℕ). not (linkable n page)) (s .count)) (λ _. refl)
+      (λ i. let inside = not-false (linkable (a .count) page) i in
       cond-same {p = isMet page met} refl (λ _. refl)
       (λ _. cond-same (ap not (s .held page inside)) (λ _. refl)
       (λ h. let held = not-false (a .held page) h in

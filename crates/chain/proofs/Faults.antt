@@ -7,15 +7,16 @@ use Prim.Native.Nat.{ℕ, zero, suc, _≤_}
 use native.Mathlib.Omega.{arith}
 use lib.Dec.{eqb}
 use Rattle.field.specs.Fault.{Fault, fault, Answer, given, refused as unread}
-use Rattle.chain.specs.Walk.{Pages, Walk, full, waiting, refused, linkInside, inFront, readThen, walk, walkFrom}
+use Rattle.field.specs.Place.{linkable}
+use Rattle.chain.specs.Walk.{Pages, Walk, full, waiting, refused, inFront, readThen, walk, walkFrom}
 use Rattle.field.proofs.Choice.{cond-holds}
 use Rattle.chain.proofs.Steps.{behind, step-holds}
 
 -- a fault of the chain that starts at first
 pub data ChainFault (pages : Pages) (first : ℕ) : Fault → Type 0 where
-  firstOutside : linkInside (pages .count) first ≡ false → ChainFault pages first (fault 11 0)
-  nextOutside : (page : ℕ) → linkInside (pages .count) page ≡ true → pages .held page ≡ true → linkInside (pages .count) (pages .next page) ≡ false → ChainFault pages first (fault 11 page)
-  pageFault : (page : ℕ) {f : Fault} → linkInside (pages .count) page ≡ true → pages .held page ≡ true → pages .read page ≡ unread f → ChainFault pages first f
+  firstOutside : linkable (pages .count) first ≡ false → ChainFault pages first (fault 11 0)
+  nextOutside : (page : ℕ) → linkable (pages .count) page ≡ true → pages .held page ≡ true → linkable (pages .count) (pages .next page) ≡ false → ChainFault pages first (fault 11 page)
+  pageFault : (page : ℕ) {f : Fault} → linkable (pages .count) page ≡ true → pages .held page ≡ true → pages .read page ≡ unread f → ChainFault pages first f
   loop : ChainFault pages first (fault 16 0)
 
 module _ (pages : Pages) (first : ℕ) where
@@ -27,9 +28,9 @@ module _ (pages : Pages) (first : ℕ) where
 
   -- where the link to a page stands
   abbrev Linked : ℕ → ℕ → Type 0
-  Linked holder page = ((holder ≡ 0) × (page ≡ first)) ⊎ ((linkInside (pages .count) holder ≡ true) × (pages .held holder ≡ true) × (page ≡ pages .next holder))
+  Linked holder page = ((holder ≡ 0) × (page ≡ first)) ⊎ ((linkable (pages .count) holder ≡ true) × (pages .held holder ≡ true) × (page ≡ pages .next holder))
 
-  outside : (holder page : ℕ) → Linked holder page → linkInside (pages .count) page ≡ false → ChainFault pages first (fault 11 holder)
+  outside : (holder page : ℕ) → Linked holder page → linkable (pages .count) page ≡ false → ChainFault pages first (fault 11 holder)
   outside holder page l o =
       ⊎-elim (λ d. rw (d .0) (firstOutside (rw (d .1) at o))) (λ d. nextOutside holder (d .0) (d .1) (rw (d .2) at o)) l
 
@@ -38,7 +39,7 @@ module _ (pages : Pages) (first : ℕ) where
   fault-front rows (waiting page rest n) p = tt
   fault-front rows (refused f) p = p
 
-  fault-read : (page : ℕ) (r : Answer (List ℕ)) → pages .read page ≡ r → linkInside (pages .count) page ≡ true → pages .held page ≡ true → (w : Walk (List ℕ)) → FaultBy w → FaultBy (readThen r w)
+  fault-read : (page : ℕ) (r : Answer (List ℕ)) → pages .read page ≡ r → linkable (pages .count) page ≡ true → pages .held page ≡ true → (w : Walk (List ℕ)) → FaultBy w → FaultBy (readThen r w)
   fault-read page (given rows) e i h w p = fault-front rows w p
   fault-read page (unread f) e i h w p = pageFault page i h e
 
@@ -62,7 +63,7 @@ module _ (pages : Pages) (first : ℕ) where
 pub record Numbered (count : ℕ) (f : Fault) : Type 0 where
   pub low : 11 ≤ f .number
   pub high : f .number ≤ 16
-  pub carries : (f .carries ≡ 0) ⊎ (linkInside count (f .carries) ≡ true)
+  pub carries : (f .carries ≡ 0) ⊎ (linkable count (f .carries) ≡ true)
   pub loopCarries : f .number ≡ 16 → f .carries ≡ 0
 
 -- where a page's faults are 12 to 15 and carry the page

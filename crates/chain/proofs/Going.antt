@@ -16,7 +16,8 @@ use lib.Dec.{eqb, leb}
 use borrow.Author.Tests.{eq-eqb, ne-eqb, le-leb, lt-leb, eqb-true, leb-true, leb-false}
 use Rattle.field.specs.Fault.{Fault, fault, Answer, given, refused as unread}
 use Rattle.page.specs.Read.{counted}
-use Rattle.chain.specs.Walk.{Pages, Walk, full, waiting, refused, linkInside, isMet, inFront, readThen, walk, walkFrom}
+use Rattle.field.specs.Place.{linkable}
+use Rattle.chain.specs.Walk.{Pages, Walk, full, waiting, refused, isMet, inFront, readThen, walk, walkFrom}
 use Rattle.chain.specs.Tally.{tally}
 use Rattle.field.proofs.Choice.{on, never}
 use Rattle.chain.proofs.PagesMet.{inside-both, both-inside, met-first, met-more, met-cases, few}
@@ -50,7 +51,7 @@ ahead-page rows n some (refused f) = refl
 abbrev pub most : ℕ → ℕ
 most count = min count 0x1_0000_0000
 
-most-inside : (count page : ℕ) → linkInside count page ≡ true → page < 0x1_0000_0000 → linkInside (most count) page ≡ true
+most-inside : (count page : ℕ) → linkable count page ≡ true → page < 0x1_0000_0000 → linkable (most count) page ≡ true
 most-inside count page i l = let b = inside-both count page i in both-inside (most count) page (b .0) (omega arith)
 
 -- the tests of `is_again`
@@ -78,7 +79,7 @@ counted-refused (unread g) f e = cc
 
 -- a page that the walk went through, on the way to a page
 pub record Through (pages : Pages) (met : List ℕ) (page q : ℕ) : Type 0 where
-  pub inside : linkInside (pages .count) q ≡ true
+  pub inside : linkable (pages .count) q ≡ true
   pub held : pages .held q ≡ true
   pub rows : List ℕ
   pub read : pages .read q ≡ given rows
@@ -117,7 +118,7 @@ module _ {pages : Pages} {first rows n mark holder page : ℕ} (g : Going pages 
   fresh : isMet page (g .met) ≡ false → suc (pages .count) - n ≡ suc (pages .count - n)
   fresh e = omega (arith, g .walked e, few (pages .count) (g .met) (g .sound .distinct) (λ q m. g .through q m .inside))
 
-  pub outside : linkInside (pages .count) page ≡ false → refused (fault 11 holder) ≡ tally (walkFrom pages first)
+  pub outside : linkable (pages .count) page ≡ false → refused (fault 11 holder) ≡ tally (walkFrom pages first)
   outside o =
       let new : isMet page (g .met) ≡ false = on (isMet page (g .met)) (λ m. absurd (false≢true (sym o ∙ g .through page m .inside))) (λ f. f) in
       sym (g .rest ∙ rw (fresh new, step-outside pages (pages .count - n) (g .met) holder page o))
@@ -131,7 +132,7 @@ module _ {pages : Pages} {first rows n mark holder page : ℕ} (g : Going pages 
   pub rows-room : {found : ℕ} → n + 1 < most (pages .count) → found ≤ 0xffff_ffff → rows + found < 2 ^ 64
   rows-room h l = omega (arith, g .low)
 
-  module _ (i : linkInside (pages .count) page ≡ true) where
+  module _ (i : linkable (pages .count) page ≡ true) where
     met-again : isMet page (g .met) ≡ true → refused (fault 16 0) ≡ tally (walkFrom pages first)
     met-again m = sym (g .rest ∙ rw (step-loop pages (suc (pages .count) - n) (g .met) holder page i m))
 

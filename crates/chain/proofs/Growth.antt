@@ -5,7 +5,8 @@ use mathlib.Core.List.{List, [], _∷_, _++_}
 use Prim.Native.Nat.{ℕ, zero, suc, _+_}
 use lib.Dec.{eqb}
 use Rattle.field.specs.Fault.{Answer, given, refused as unread}
-use Rattle.chain.specs.Walk.{Pages, Walk, full, waiting, refused, linkInside, isMet, inFront, readThen, walk, walkFrom}
+use Rattle.field.specs.Place.{linkable}
+use Rattle.chain.specs.Walk.{Pages, Walk, full, waiting, refused, isMet, inFront, readThen, walk, walkFrom}
 use Rattle.chain.specs.Begins.{Begins, BeginsWith, Grows}
 use Rattle.field.proofs.Choice.{on}
 use Rattle.chain.proofs.Steps.{behind, step-outside, step-met, step-waiting, step-read}
@@ -13,9 +14,9 @@ use Rattle.chain.proofs.Steps.{behind, step-outside, step-met, step-wai
 pub record Grown (a b : Pages) : Type 0 where
   pub count : a .count ≡ b .count
   pub last : a .last ≡ b .last
-  pub held : (page : ℕ) → linkInside (a .count) page ≡ true → a .held page ≡ true → b .held page ≡ true
-  pub read : (page : ℕ) → linkInside (a .count) page ≡ true → a .held page ≡ true → a .read page ≡ b .read page
-  pub next : (page : ℕ) → linkInside (a .count) page ≡ true → a .held page ≡ true → a .next page ≡ b .next page
+  pub held : (page : ℕ) → linkable (a .count) page ≡ true → a .held page ≡ true → b .held page ≡ true
+  pub read : (page : ℕ) → linkable (a .count) page ≡ true → a .held page ≡ true → a .read page ≡ b .read page
+  pub next : (page : ℕ) → linkable (a .count) page ≡ true → a .held page ≡ true → a .next page ≡ b .next page
 
 pub begins-none : (all : List ℕ) → Begins [] all
 unfolding Begins
@@ -46,8 +47,8 @@ grows-read (given rows) v w e = grows-front rows v w e
 grows-read (unread f) v w e = refl
 
 module _ {a b : Pages} (g : Grown a b) where
-  inside-too : (page : ℕ) {t : Bool} → linkInside (a .count) page ≡ t → linkInside (b .count) page ≡ t
-  inside-too page e = ap (λ (n : ℕ). linkInside n page) (sym (g .count)) ∙ e
+  inside-too : (page : ℕ) {t : Bool} → linkable (a .count) page ≡ t → linkable (b .count) page ≡ t
+  inside-too page e = ap (λ (n : ℕ). linkable n page) (sym (g .count)) ∙ e
 
   last-too : (page : ℕ) {t : Bool} → eqb page (a .last) ≡ t → eqb page (b .last) ≡ t
   last-too page e = ap (eqb page) (sym (g .last)) ∙ e
@@ -56,7 +57,7 @@ module _ {a b : Pages} (g : Grown a b) where
   unfolding walk behind
   walk-grows zero met holder page = refl
   walk-grows (suc fuel) met holder page =
-      on (linkInside (a .count) page)
+      on (linkable (a .count) page)
       (λ i. on (isMet page met)
       (λ m. rw (step-met a fuel met holder page i m, step-met b fuel met holder page (inside-too page i) m) refl)
       (λ m. on (a .held page)

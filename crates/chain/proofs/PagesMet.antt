@@ -10,17 +10,18 @@ use native.Mathlib.Omega.{arith}
 use lib.ListN.{length}
 use lib.Dec.{eqb, ltb, leb}
 use borrow.Author.Tests.{eq-eqb, ne-eqb, eqb-true, eqb-false, leb-true, ltb-true, le-leb, lt-ltb}
-use Rattle.chain.specs.Walk.{linkInside, isMet}
+use Rattle.field.specs.Place.{linkable}
+use Rattle.chain.specs.Walk.{isMet}
 use Rattle.field.proofs.Choice.{on, both-true, or-right}
 
-pub inside-both : (count page : ℕ) → linkInside count page ≡ true → (1 ≤ page) × (page < count)
-unfolding linkInside
+pub inside-both : (count page : ℕ) → linkable count page ≡ true → (1 ≤ page) × (page < count)
+unfolding linkable
 inside-both count page e =
     let both = both-true (leb 1 page) (ltb page count) e in
     (leb-true 1 page (both .0), ltb-true page count (both .1))
 
-pub both-inside : (count page : ℕ) → 1 ≤ page → page < count → linkInside count page ≡ true
-unfolding linkInside
+pub both-inside : (count page : ℕ) → 1 ≤ page → page < count → linkable count page ≡ true
+unfolding linkable
 both-inside count page h l = rw (le-leb 1 page h, lt-ltb page count l)
 
 pub met-first : (page : ℕ) (met : List ℕ) → isMet page (page ∷ met) ≡ true
@@ -76,12 +77,12 @@ below-few (suc (suc n)) met e =
     let h = below-few (suc n) met e in
     on (isMet (suc n) met) (λ f. rw f (omega arith)) (λ f. rw f (omega arith))
 
-below-all : (n : ℕ) (met : List ℕ) → Distinct met → ((page : ℕ) → isMet page met ≡ true → linkInside n page ≡ true) → length met ≡ metBelow n met
+below-all : (n : ℕ) (met : List ℕ) → Distinct met → ((page : ℕ) → isMet page met ≡ true → linkable n page ≡ true) → length met ≡ metBelow n met
 below-all n [] d h = sym (below-none n)
 below-all n (first ∷ met) d h =
     let rest = below-all n met (d .1) (λ page e. h page (met-more page first met e)) in
     let low = inside-both n first (h first (met-first first met)) in
     omega (arith, below-add n first met (d .0) (low .1))
 
-pub few : (n : ℕ) (met : List ℕ) → Distinct met → ((page : ℕ) → isMet page met ≡ true → linkInside n page ≡ true) → length met ≤ n - 1
+pub few : (n : ℕ) (met : List ℕ) → Distinct met → ((page : ℕ) → isMet page met ≡ true → linkable n page ≡ true) → length met ≤ n - 1
 few n met d h = omega (arith, below-all n met d h, below-few n met (on (isMet 0 met) (λ e. absurd (omega (arith, inside-both n 0 (h 0 e)))) (λ e. e)))

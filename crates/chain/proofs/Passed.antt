@@ -10,7 +10,8 @@ use native.Mathlib.Omega.{arith}
 use lib.ListN.{length}
 use lib.Dec.{eqb}
 use Rattle.field.specs.Fault.{Answer, given, refused as unread}
-use Rattle.chain.specs.Walk.{Pages, Walk, full, waiting, refused, linkInside, isMet, inFront, readThen, walk, walkFrom}
+use Rattle.field.specs.Place.{linkable}
+use Rattle.chain.specs.Walk.{Pages, Walk, full, waiting, refused, isMet, inFront, readThen, walk, walkFrom}
 use Rattle.chain.specs.Along.{along, rowsAlong}
 use Rattle.field.proofs.Choice.{on, never, cond-holds}
 use Rattle.chain.proofs.PagesMet.{Distinct, met-first, met-more, met-cases, few}
@@ -20,9 +21,9 @@ use Rattle.chain.proofs.Steps.{behind, step-holds}
 pub record Passed (pages : Pages) (met : List ℕ) (page : ℕ) (rows : List ℕ) (n : ℕ) : Type 0 where
   pub distinct : Distinct (along (pages .next) n page)
   pub new : (q : ℕ) → isMet q (along (pages .next) n page) ≡ true → isMet q met ≡ false
-  pub inside : (q : ℕ) → isMet q (along (pages .next) n page) ≡ true → linkInside (pages .count) q ≡ true
+  pub inside : (q : ℕ) → isMet q (along (pages .next) n page) ≡ true → linkable (pages .count) q ≡ true
   pub held : (q : ℕ) → isMet q (along (pages .next) n page) ≡ true → pages .held q ≡ true
-  pub found : (rowsOf : ℕ → List ℕ) → ((q : ℕ) (some : List ℕ) → linkInside (pages .count) q ≡ true → pages .read q ≡ given some → rowsOf q ≡ some)
+  pub found : (rowsOf : ℕ → List ℕ) → ((q : ℕ) (some : List ℕ) → linkable (pages .count) q ≡ true → pages .read q ≡ given some → rowsOf q ≡ some)
       → rowsAlong (pages .next) rowsOf n page ≡ rows
 
 abbrev pub PassedBy : Pages → List ℕ → ℕ → Walk (List ℕ) → Type 0
@@ -36,7 +37,7 @@ module _ (pages : Pages) where
   passed-none met page =
       record { distinct = tt; new = λ q e. never (cc); inside = λ q e. never (cc); held = λ q e. never (cc); found = λ rowsOf h. refl }
 
-  module _ (met : List ℕ) (page : ℕ) (i : linkInside (pages .count) page ≡ true) (m : isMet page met ≡ false) (h : pages .held page ≡ true) where
+  module _ (met : List ℕ) (page : ℕ) (i : linkable (pages .count) page ≡ true) (m : isMet page met ≡ false) (h : pages .held page ≡ true) where
     met-later : (q : ℕ) → isMet q (page ∷ met) ≡ false → (isMet q met ≡ false) × (q ≡ page → ⊥)
     met-later q e = (
       on (isMet q met) (λ t. absurd (false≢true (sym e ∙ met-more q page met t))) (λ f. f),

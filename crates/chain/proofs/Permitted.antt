@@ -15,7 +15,8 @@ use Rattle.field.specs.Fault.{Fault, given, refused as unread}
 use Rattle.row.specs.declared.Table.{Table}
 use Rattle.page.specs.Read.{readPage}
 use Rattle.intake.specs.Length.{longest}
-use Rattle.chain.specs.Walk.{full, waiting, refused, linkInside, walkFrom}
+use Rattle.field.specs.Place.{linkable}
+use Rattle.chain.specs.Walk.{full, waiting, refused, walkFrom}
 use Rattle.chain.specs.File.{pagePart, filePages, pagePlaces, chainPlaces}
 use Rattle.page.proofs.Cases.{places-low}
 use Rattle.page.proofs.Laws.{page-rows, page-answer, PageAnswer}
@@ -39,7 +40,7 @@ module _ {size count : ℕ} {image : List ℕ} (f : Permitted size count image) 
   pub places-fit : (number : ℕ) → number < count → number * size + heapStart + 0xffff ≤ 0xffff_ffff
   places-fit number h = omega (arith, page-end number h, f .short)
 
-  page-found : (table : Table) (number : ℕ) (rows : List ℕ) → linkInside count number ≡ true → readPage number table (pagePart size image number) ≡ given rows
+  page-found : (table : Table) (number : ℕ) (rows : List ℕ) → linkable count number ≡ true → readPage number table (pagePart size image number) ≡ given rows
       → pagePlaces size image number ≡ rows
   unfolding pagePlaces
   page-found table number rows i e =

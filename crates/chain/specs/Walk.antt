@@ -4,6 +4,7 @@ use mathlib.Core.Bool.{Bool, false, cond, not, _&&_, _||_}
 use mathlib.Core.List.{List, [], _∷_, _++_}
 use Prim.Native.Nat.{ℕ, zero, suc, _+_}
 use lib.Dec.{leb, ltb, eqb}
+use Rattle.field.specs.Place.{linkable}
 use Rattle.field.specs.Fault.{Fault, fault, Answer, given, refused as unread}
 
 -- what the walk asks of the pages: P, last_page, and of each page whether it is held, what reading it gives, and its next_page
@@ -19,10 +20,6 @@ pub data Walk (A : Type 0) : Type 0 where
   full : A → ℕ → Walk A
   waiting : ℕ → A → ℕ → Walk A
   refused : Fault → Walk A
-
--- the page lies in 1..P-1
-unfoldable pub linkInside : ℕ → ℕ → Bool
-linkInside count page = leb 1 page && ltb page count
 
 -- the page is one of those met before
 unfoldable pub isMet : ℕ → List ℕ → Bool
@@ -46,7 +43,7 @@ readThen (unread f) rest = refused f
 unfoldable pub walk : Pages → ℕ → List ℕ → ℕ → ℕ → Walk (List ℕ)
 walk pages zero met holder page = refused (fault 16 0)
 walk pages (suc fuel) met holder page =
-    cond (not (linkInside (pages .count) page)) (refused (fault 11 holder))
+    cond (not (linkable (pages .count) page)) (refused (fault 11 holder))
     (cond (isMet page met) (refused (fault 16 0))
     (cond (not (pages .held page)) (waiting page [] 0)
     (readThen (pages .read page)

@@ -4,7 +4,7 @@ ghost use mathlib.Core.Bool.{_||_};
 ghost use Prim.Native.Nat.{_+_, min};
 ghost use lib.ListN.{length};
 ghost use lib.Dec.{eqb, leb};
-ghost use Rattle.chain.specs.Walk.{linkInside, walkFrom};
+ghost use Rattle.chain.specs.Walk.{walkFrom};
 ghost use Rattle.chain.specs.Tally.{tally, walkedAs};
 ghost use Rattle.chain.specs.Held.{pageHeld};
 ghost use Rattle.chain.specs.File.{pagePart, filePages, pagePlaces, chainPlaces};
@@ -20,16 +20,6 @@ pub enum Walked {
     Full { rows: usize, pages: u64 },
     Waiting { page: u32, rows: usize, pages: u64 },
     Refused(Refusal),
-}
-
-// Whether a link leads to one of the pages 1 to P-1.
-fn link_inside(count: u64, page: u32) -> bool
-    ensures { λ r. ⌜ r ≡ linkInside count page ⌝ }
-{
-    if page < 1 {
-        return false;
-    }
-    (page as u64) < count
 }
 
 // Whether every block of a page is held.
@@ -96,7 +86,7 @@ pub fn walk(
     let mut rows: usize = 0;
     let mut pages: u64 = 0;
     let mut mark: u32 = 0;
-    while link_inside(count, page) {
+    while Page::linkable(count, page) {
         if is_again(page, mark, pages, count) {
             return Walked::Refused(Refusal::ChainLoop);
         }

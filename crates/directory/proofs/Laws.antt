@@ -7,12 +7,13 @@ use native.Mathlib.Omega.{arith}
 use lib.ListN.{take}
 use lib.Dec.{eqb}
 use borrow.Author.Tests.{eqb-true}
+use Rattle.field.specs.Place.{linkable}
 use Rattle.field.specs.Fault.{Answer, given, refused}
 use Rattle.row.specs.declared.Table.{Table}
 use Rattle.row.specs.Table.{tableNumber}
 use Rattle.directory.specs.declared.Pointer.{Pointer}
 use Rattle.directory.specs.declared.Directory.{Directory}
-use Rattle.directory.specs.Pointer.{linkable, pointerAmong, pointerFor}
+use Rattle.directory.specs.Pointer.{pointerAmong, pointerFor}
 use Rattle.field.proofs.Choice.{cond-holds}
 
 abbrev pub PointerAnswer : ℕ → ℕ → Answer Pointer → Type 0

@@ -1,9 +1,10 @@
 -- Document 01: "no pointer of the type asked" (10), and "first_page is tested and then last_page (11)", which carries 0 for the directory.
-use mathlib.Core.Bool.{Bool, cond, _&&_}
+use mathlib.Core.Bool.{cond}
 use mathlib.Core.List.{List, [], _∷_}
 use Prim.Native.Nat.{ℕ}
 use lib.ListN.{take}
-use lib.Dec.{leb, ltb, eqb}
+use lib.Dec.{eqb}
+use Rattle.field.specs.Place.{linkable}
 use Rattle.field.specs.Fault.{Answer, given, refused, fault, faultOf}
 use Rattle.row.specs.declared.Table.{Table}
 use Rattle.row.specs.Table.{tableNumber}
@@ -11,10 +12,6 @@ use Rattle.directory.specs.declared.Pointer.{Pointer}
 use Rattle.directory.specs.declared.Directory.{Directory}
 use Rattle.directory.specs.declared.Asked.{Asked}
 use Rattle.directory.specs.declared.Asked.the-variants.{Found, Refused}
-
--- a page that a link may name: "1..P-1"
-unfoldable pub linkable : ℕ → ℕ → Bool
-linkable pages page = leb 1 page && ltb page pages
 
 -- the pointer whose links are tested, in a file of so many pages
 abbrev pub tested : ℕ → Pointer → Answer Pointer

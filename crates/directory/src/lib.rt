@@ -5,8 +5,9 @@ ghost use Prim.Native.Nat.{_≤_};
 ghost use lib.ListN.{take};
 ghost use Rattle.directory.specs.Header.{type, allowedPage, allowedTables, hasType, typeTwice, tablesHold, headerHolds};
 ghost use Rattle.directory.specs.Directory.{pointerOf, noPointer, kept, directoryOf, noDirectory, headerOf};
-ghost use Rattle.directory.specs.Pointer.{linkable, tested, pointerAmong, pointerFor, askedOf};
+ghost use Rattle.directory.specs.Pointer.{tested, pointerAmong, pointerFor, askedOf};
 use field::Block;
+use field::Page;
 use field::Refusal;
 use row::Table;
 
@@ -183,25 +184,14 @@ fn directory_of(block: &[u8], len: u64) -> Directory
     }
 }
 
-// A page that a link may name.
-fn is_linkable(pages: u64, page: u32) -> bool
-    ensures { λ r. ⌜ r ≡ linkable pages page ⌝ }
-{
-    if 1 <= page {
-        (page as u64) < pages
-    } else {
-        false
-    }
-}
-
 // The pointer, where its links are inside the file.
 fn test_links(pages: u64, p: Pointer) -> Asked
     ensures { λ r. ⌜ askedOf r ≡ tested pages p ⌝ }
 {
-    if !is_linkable(pages, p.first_page) {
+    if !Page::linkable(pages, p.first_page) {
         return Asked::Refused(Refusal::PageLink(0));
     }
-    if is_linkable(pages, p.last_page) {
+    if Page::linkable(pages, p.last_page) {
         Asked::Found(p)
     } else {
         Asked::Refused(Refusal::PageLink(0))

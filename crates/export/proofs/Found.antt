@@ -9,7 +9,8 @@ use native.Mathlib.Omega.{arith}
 use lib.ListN.{length, getD}
 use lib.Dec.{eqb}
 use Rattle.field.specs.Fault.{Answer, given, refused as unread}
-use Rattle.chain.specs.Walk.{Pages, Walk, full, waiting, refused, linkInside, inFront, readThen, walk, walkFrom}
+use Rattle.field.specs.Place.{linkable}
+use Rattle.chain.specs.Walk.{Pages, Walk, full, waiting, refused, inFront, readThen, walk, walkFrom}
 use Rattle.field.proofs.Choice.{cond-holds}
 use Rattle.page.proofs.Laws.{Each}
 use Rattle.chain.proofs.Steps.{behind, step-holds}
@@ -48,7 +49,7 @@ module _ (P : ℕ → Type 0) where
   found-read (given rows) e w f = found-front rows (e rows refl) w f
   found-read (unread g) e w f = tt
 
-  module _ (pages : Pages) (each : (page : ℕ) (rows : List ℕ) → linkInside (pages .count) page ≡ true → pages .held page ≡ true → pages .read page ≡ given rows → Each P rows) where
+  module _ (pages : Pages) (each : (page : ℕ) (rows : List ℕ) → linkable (pages .count) page ≡ true → pages .held page ≡ true → pages .read page ≡ given rows → Each P rows) where
     found-walk : (fuel : ℕ) (met : List ℕ) (holder page : ℕ) → EachFound P (walk pages fuel met holder page)
     unfolding walk behind
     found-walk zero met holder page = tt

@@ -23,7 +23,8 @@ use Rattle.directory.specs.declared.Directory.{Directory}
 use Rattle.directory.specs.Header.{len-page, headerHolds}
 use Rattle.directory.specs.Directory.{directoryOf, headerOf}
 use Rattle.directory.specs.Pointer.{pointerFor}
-use Rattle.chain.specs.Walk.{Pages, Walk, full, waiting, refused, linkInside, walkFrom}
+use Rattle.field.specs.Place.{linkable}
+use Rattle.chain.specs.Walk.{Pages, Walk, full, waiting, refused, walkFrom}
 use Rattle.chain.specs.Begins.{Grows}
 use Rattle.chain.specs.Held.{pageHeld}
 use Rattle.chain.specs.File.{pagePart, pageNext, filePages}
@@ -51,7 +52,7 @@ module _ (len : ℕ) (m : Memory) (table : Table) where
       on (bit (m .map) 0) (λ e. on (headerHolds len block) (λ h. rw (e, h) (chain e (holding len block h))) (λ h. rw (e, h) broken)) (λ e. rw e missing)
 
 -- a link inside 1..P-1 names a page of the file
-pub in-file : {len : ℕ} (block : List ℕ) {number : ℕ} → Holding len block → linkInside (len / len-page block) number ≡ true → InFile len (len-page block) number
+pub in-file : {len : ℕ} (block : List ℕ) {number : ℕ} → Holding len block → linkable (len / len-page block) number ≡ true → InFile len (len-page block) number
 in-file {len} block {number} h e = record { whole = h .whole; some = omega (arith, h .least); inside = inside-both (len / len-page block) number e .1 }
 
 -- what relates a refusal to itself, and the two chains of each pointer of a header that holds, relates the walks from one first block
@@ -68,7 +69,7 @@ module _ (len : ℕ) (a b : Memory) (table : Table) (R : Walk (List ℕ) → Wal
 
 module _ {len : ℕ} {a b : Memory} (soundA : callFault len (a .image) (a .map) ≡ none) (soundB : callFault len (b .image) (b .map) ≡ none) (table : Table) where
   -- a page that is held is read alike and has the same next page
-  module _ (more : MoreBlocks len a b) (block : List ℕ) (h : Holding len block) (page : ℕ) (i : linkInside (len / len-page block) page ≡ true) (e : pageHeld (len-page block) (a .map) page ≡ true) where
+  module _ (more : MoreBlocks len a b) (block : List ℕ) (h : Holding len block) (page : ℕ) (i : linkable (len / len-page block) page ≡ true) (e : pageHeld (len-page block) (a .map) page ≡ true) where
     same-part : pagePart (len-page block) (a .image) page ≡ pagePart (len-page block) (b .image) page
     same-part = part-same more soundA soundB (in-file block h i) e
 

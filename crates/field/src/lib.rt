@@ -2,7 +2,7 @@
 ghost use mathlib.Core.Path.{_≡_};
 ghost use Prim.Native.Nat.{_+_, _*_};
 ghost use Rattle.field.specs.Number.{byteAt, le16, le32};
-ghost use Rattle.field.specs.Place.{pagePlace};
+ghost use Rattle.field.specs.Place.{pagePlace, linkable};
 ghost use Rattle.field.specs.Fault.{numberOf, carriesOf};
 
 // A block of the file, named by its number.
@@ -34,6 +34,17 @@ impl Page {
             number,
             start,
             end: start + (size as usize),
+        }
+    }
+
+    // Whether a link may name the page in a file of so many pages.
+    pub fn linkable(pages: u64, page: u32) -> bool
+        ensures { λ r. ⌜ r ≡ linkable pages page ⌝ }
+    {
+        if 1 <= page {
+            (page as u64) < pages
+        } else {
+            false
         }
     }
 }

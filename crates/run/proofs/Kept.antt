@@ -1,5 +1,5 @@
 -- What a question keeps of an earlier one (specs/Later), where more blocks are held than before.
---     shown-rows, shown-begin     the places that all rows writes are the rows found
+--     placesWritten-rows, placesWritten-begin     the places that all rows writes are the rows found
 --     settle-stays                a row that was found is found again, unless the walk is refused
 --     keeps                       all of it
 use mathlib.Core.Path.{_≡_, refl, sym, ap, _∙_}
@@ -30,7 +30,7 @@ use Rattle.export.specs.Row.{Reply, answered, waits, refuses, settleRow}
 use Rattle.export.specs.Record.{recordAt, recordIn, askRecord}
 use Rattle.export.specs.Text.{TextPlace, textAt, textIn, askText}
 use Rattle.run.specs.Call.{Question, allRows, rowRecord, rowText, answer}
-use Rattle.run.specs.Later.{shownIn, shown, StaysAnswered, walkRefusal, rowRefusal, refusalOf, tableAsked, Keeps}
+use Rattle.run.specs.Later.{writtenIn, placesWritten, StaysAnswered, walkRefusal, rowRefusal, refusalOf, tableAsked, Keeps}
 use Rattle.field.proofs.Choice.{on, never}
 use Rattle.page.proofs.Laws.{Each}
 use Rattle.export.proofs.Blocks.{MoreBlocks}
@@ -48,15 +48,15 @@ front-written : (list rows : List ℕ) → length rows ≤ length list → take 
 front-written list rows h = rw (sets-eq rows list 0 (omega arith)) (take-append-seam rows (drop (0 + length rows) list))
 
 -- where 17 does not refuse, the places that are written are the rows found
-shown-found : (list places : List ℕ) (w : Walk (List ℕ)) → shown (settleRows list w) ≡ some places → rowsIn w ≡ some places
-shown-found list places = by
+placesWritten-found : (list places : List ℕ) (w : Walk (List ℕ)) → placesWritten (settleRows list w) ≡ some places → rowsIn w ≡ some places
+placesWritten-found list places = by
   where
-    long : (rows : List ℕ) (good : Walk ℕ) → shownIn good (written list rows) ≡ some (take (length rows) (written list rows)) → shown (placed list rows good) ≡ some places → some rows ≡ some places
+    long : (rows : List ℕ) (good : Walk ℕ) → writtenIn good (written list rows) ≡ some (take (length rows) (written list rows)) → placesWritten (placed list rows good) ≡ some places → some rows ≡ some places
     long rows good front e =
         on (ltb (length list) (length rows)) (λ h. let z = rw h at e in never (cc))
         (λ h. ap some (sym (front-written list rows (ltb-false (length list) (length rows) h))) ∙ sym front ∙ rw h at e)
 
-    by : (w : Walk (List ℕ)) → shown (settleRows list w) ≡ some places → rowsIn w ≡ some places
+    by : (w : Walk (List ℕ)) → placesWritten (settleRows list w) ≡ some places → rowsIn w ≡ some places
     by (full rows pages) e = long rows (full (length rows) pages) refl e
     by (waiting page rows pages) e = long rows (waiting page (length rows) pages) refl e
     by (refused f) e = never (cc)
@@ -123,13 +123,13 @@ module _ {len : ℕ} {a b : Memory} (soundA : callFault len (a .image) (a .map) 
   grows : (table : Table) → Grows (tableWalk len a table) (tableWalk len b table)
   grows table = table-walk-grows soundA soundB table more
 
-  keeps-rows : (number : ℕ) (list other places all : List ℕ) → shown (askRows len a number list) ≡ some places → shown (askRows len b number other) ≡ some all → Begins places all
+  keeps-rows : (number : ℕ) (list other places all : List ℕ) → placesWritten (askRows len a number list) ≡ some places → placesWritten (askRows len b number other) ≡ some all → Begins places all
   keeps-rows number list other places all e f =
       by (tableOf number) (rw (rows-asked len a soundA number list) at e) (rw (rows-asked len b soundB number other) at f)
     where
-      by : (t : Answer Table) → shown (rowsOf len a list t) ≡ some places → shown (rowsOf len b other t) ≡ some all → Begins places all
+      by : (t : Answer Table) → placesWritten (rowsOf len a list t) ≡ some places → placesWritten (rowsOf len b other t) ≡ some all → Begins places all
       by (given table) p q =
-          begins-later (tableWalk len a table) (tableWalk len b table) places all (grows table) (shown-found list places (tableWalk len a table) p) (shown-found other all (tableWalk len b table) q)
+          begins-later (tableWalk len a table) (tableWalk len b table) places all (grows table) (placesWritten-found list places (tableWalk len a table) p) (placesWritten-found other all (tableWalk len b table) q)
       by (unread r) p q = never (cc)
 
   keeps-record : (number k : ℕ) (x : Record) → askRecord len a number k ≡ answered x → StaysAnswered x (askRecord len b number k)

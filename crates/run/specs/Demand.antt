@@ -44,7 +44,7 @@ pub record Demand (len : ℕ) (before : Memory) (calls : List Call) : Type 0 whe
   pub alike : (others : List Call) → SameReceived len (receivedIn len calls) (receivedIn len others) → EndAlike len (endOf len before calls) (endOf len before others)
   pub replies : (others : List Call) → SameReceived len (receivedIn len calls) (receivedIn len others)
       → (call : Call) → reply len (endOf len before calls) call ≡ reply len (endOf len before others) call
-  -- shown rows, answers and faults, at any later place of the run
+  -- written places, answers and faults, at any later place of the run
   pub keeps : (later : List Call) → Keeps len (endOf len before calls) (endOf len before (calls ++ later))
   -- "When the book has every block, its blocks in order are the whole file."
   pub ordered : ((b : ℕ) → b < blocksOf len → has (receivedIn len calls b) ≡ true) → IsWhole len (receivedIn len calls) (inOrder (blocksOf len) (receivedIn len calls))

@@ -19,13 +19,13 @@ use Rattle.export.specs.Text.{TextPlace, askText}
 use Rattle.run.specs.Call.{Question, allRows, rowRecord, rowText, CallReply, delivered, rows, row, text, answer}
 
 -- "Shown rows are the places that Full or Waiting writes": the front of the list afterwards, as many as the answer carries
-abbrev pub shownIn : Walk ℕ → List ℕ → Option (List ℕ)
-shownIn (full count pages) list = some (take count list)
-shownIn (waiting page count pages) list = some (take count list)
-shownIn (refused f) list = none
+abbrev pub writtenIn : Walk ℕ → List ℕ → Option (List ℕ)
+writtenIn (full count pages) list = some (take count list)
+writtenIn (waiting page count pages) list = some (take count list)
+writtenIn (refused f) list = none
 
-abbrev pub shown : RowsOutcome → Option (List ℕ)
-shown o = shownIn (o .answer) (o .list)
+abbrev pub placesWritten : RowsOutcome → Option (List ℕ)
+placesWritten o = writtenIn (o .answer) (o .list)
 
 -- refused by a fault of the file's own
 pub record RefusedByFile {A : Type 0} (r : Reply A) : Type 0 where
@@ -67,7 +67,7 @@ tableAsked (rowText table k slot) = table
 
 pub record Keeps (len : ℕ) (earlier later : Memory) : Type 0 where
   -- "each later Full or Waiting for all rows of that table begins with them", whatever the two lists
-  pub rows : (table : ℕ) (list other places all : List ℕ) → shown (askRows len earlier table list) ≡ some places → shown (askRows len later table other) ≡ some all
+  pub rows : (table : ℕ) (list other places all : List ℕ) → placesWritten (askRows len earlier table list) ≡ some places → placesWritten (askRows len later table other) ≡ some all
       → Begins places all
   -- "A record or string once answered is the answer to that question later too, unless a fault refuses it."
   pub records : (table k : ℕ) (r : Record) → askRecord len earlier table k ≡ answered r → StaysAnswered r (askRecord len later table k)

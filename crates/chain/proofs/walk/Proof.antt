@@ -23,8 +23,8 @@ abbrev μ-loop : tie.MeasureT-loop
 loop-holds : tie.Need-loop-holds Inv-loop μ-loop
 loop-holds c = begin _ _ (omega arith)
 
-link-inside-requires : tie.Need-link-inside-requires Inv-loop μ-loop
-link-inside-requires c κs = search needs
+linkable-requires : tie.Need-linkable-requires Inv-loop μ-loop
+linkable-requires c κs = search needs
 
 is-again-requires : tie.Need-is-again-requires Inv-loop μ-loop
 is-again-requires c κs = search needs
@@ -32,7 +32,7 @@ is-again-requires c κs = search needs
 returns : tie.Need-returns Inv-loop μ-loop
 returns c =
     let test = c .before .before in
-    stopped (test .before .before .loop .inv) (sym (test .before .link-inside .ensures) ∙ test .if1 .taken) (c .before .is-again .ensures) (c .if2 .taken)
+    stopped (test .before .before .loop .inv) (sym (test .before .linkable .ensures) ∙ test .if1 .taken) (c .before .is-again .ensures) (c .if2 .taken)
 
 is-held-requires : tie.Need-is-held-requires Inv-loop μ-loop
 is-held-requires c κs = search needs
@@ -40,7 +40,7 @@ is-held-requires c κs = search needs
 returns-2 : tie.Need-returns-2 Inv-loop μ-loop
 returns-2 c =
     let test = c .before .before .before .before in
-    missing (test .before .before .loop .inv) (sym (test .before .link-inside .ensures) ∙ test .if1 .taken) (sym (c .before .is-held .ensures) ∙ not-true _ (c .if3 .taken))
+    missing (test .before .before .loop .inv) (sym (test .before .linkable .ensures) ∙ test .if1 .taken) (sym (c .before .is-held .ensures) ∙ not-true _ (c .if3 .taken))
 
 part-requires : tie.Need-part-requires Inv-loop μ-loop
 part-requires c κs = search needs
@@ -58,7 +58,7 @@ returns-3 c =
     let again = held .before .before in
     let test = again .before .before in
     let inv = test .before .before .loop .inv in
-    let inside = sym (test .before .link-inside .ensures) ∙ test .if1 .taken in
+    let inside = sym (test .before .linkable .ensures) ∙ test .if1 .taken in
     faulty inv inside (sym (held .before .is-held .ensures) ∙ not-false _ (held .if3 .left)) _ (read-refused _ _ _ _ (read .before .before .before .before .part .ensures) (read .before .before .before .read .ensures) (read .before .refusal .given .1))
 
 enum-known-found : tie.Need-enum-known-found Inv-loop μ-loop
@@ -88,7 +88,7 @@ returns-4 c =
     let again = held .before .before in
     let test = again .before .before in
     let inv = test .before .before .loop .inv in
-    let inside = sym (test .before .link-inside .ensures) ∙ test .if1 .taken in
+    let inside = sym (test .before .linkable .ensures) ∙ test .if1 .taken in
     at-last inv inside (sym (held .before .is-held .ensures) ∙ not-false _ (held .if3 .left)) (read-given _ _ _ _ (read .before .before .before .before .part .ensures) (read .before .before .before .read .ensures) (read .before .found .given .1)) (c .if4 .taken)
 
 next-requires : tie.Need-next-requires Inv-loop μ-loop
@@ -104,7 +104,7 @@ loop-again c =
     let again = held .before .before in
     let test = again .before .before in
     let inv = test .before .before .loop .inv in
-    let inside = sym (test .before .link-inside .ensures) ∙ test .if1 .taken in
+    let inside = sym (test .before .linkable .ensures) ∙ test .if1 .taken in
     let start = test .before .before .before .before .before in
     let args = start .args in
     let count = read-given _ _ _ _ (read .before .before .before .before .part .ensures) (read .before .before .before .read .ensures) (read .before .found .given .1) in
@@ -113,7 +113,7 @@ loop-again c =
     onward inv inside (sym (held .before .is-held .ensures) ∙ not-false _ (held .if3 .left)) count (omega arith) left (omega (arith, few, start .fits)) (c .before .before .if4 .left) (part-next _ _ _ (read .before .before .before .before .part .ensures) (c .next .ensures)) (⊎-elim (λ w. inr (w .1)) (λ w. inl (w .1)) (c .before .if5 .came))
 
 returns-5 : tie.Need-returns-5 Inv-loop μ-loop
-returns-5 c = outside (c .before .before .loop .inv) (sym (c .before .link-inside .ensures) ∙ c .if1 .left)
+returns-5 c = outside (c .before .before .loop .inv) (sym (c .before .linkable .ensures) ∙ c .if1 .left)
 
 pub walk-spec : {M : Type 1} → statement M
 walk-spec =
@@ -122,7 +122,7 @@ walk-spec =
     Inv-loop
     μ-loop
     loop-holds
-    link-inside-requires
+    linkable-requires
     is-again-requires
     returns
     is-held-requires

@@ -4,25 +4,25 @@ use borrow.Author.Tests.{not-true, not-false}
 use Rattle.directory.proofs.test_links.Statement.{statement}
 use Rattle.directory.proofs.test_links.Tie as tie
 
-is-linkable-requires : tie.Need-is-linkable-requires
-is-linkable-requires c κs = search needs
+linkable-requires : tie.Need-linkable-requires
+linkable-requires c κs = search needs
 
 returns : tie.Need-returns
-returns c = rw (← c .before .is-linkable .ensures, not-true (c .before .is-linkable .result) (c .if1 .taken))
+returns c = rw (← c .before .linkable .ensures, not-true (c .before .linkable .result) (c .if1 .taken))
 
-is-linkable-requires-2 : tie.Need-is-linkable-requires-2
-is-linkable-requires-2 c κs = search needs
+linkable-requires-2 : tie.Need-linkable-requires-2
+linkable-requires-2 c κs = search needs
 
 returns-2 : tie.Need-returns-2
 returns-2 c =
     let first = c .before .before .before in
-    rw (← first .is-linkable .ensures, not-false (first .is-linkable .result) (c .before .before .if1 .left), ← c .before .is-linkable2 .ensures, c .if2 .taken)
+    rw (← first .linkable .ensures, not-false (first .linkable .result) (c .before .before .if1 .left), ← c .before .linkable2 .ensures, c .if2 .taken)
 
 returns-3 : tie.Need-returns-3
 returns-3 c =
     let first = c .before .before .before in
-    rw (← first .is-linkable .ensures, not-false (first .is-linkable .result) (c .before .before .if1 .left), ← c .before .is-linkable2 .ensures, c .if2 .left)
+    rw (← first .linkable .ensures, not-false (first .linkable .result) (c .before .before .if1 .left), ← c .before .linkable2 .ensures, c .if2 .left)
 
 pub test-links-spec : {M : Type 1} → statement M
 test-links-spec =
-    tie.close (tie.spec is-linkable-requires returns is-linkable-requires-2 returns-2 returns-3)
+    tie.close (tie.spec linkable-requires returns linkable-requires-2 returns-2 returns-3)
