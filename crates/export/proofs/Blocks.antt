@@ -1,8 +1,9 @@
 -- Two memories whose held blocks have the same bytes, in a file of len bytes.
 --     SameBlocks, MoreBlocks     the same blocks are held, or those of the first are held in the second, with the same bytes
---     first-same                 the file's first block, where it is held
---     held-same, held-more       a page of the file is held in both, or in the second where it is in the first
+--     InFile                     a page of the file, its room, its bytes by its blocks
+--     held-same, held-more       a page is held in both, or in the second where it is in the first
 --     part-same                  a page that is held has the same part of both images
+--     first-same                 the first block, where it is held
 use mathlib.Core.Path.{_≡_, sym, ap, _∙_}
 use mathlib.Core.Bool.{true, not, _&&_}
 use mathlib.Core.List.{List}
@@ -38,10 +39,9 @@ pub record MoreBlocks (len : ℕ) (a b : Memory) : Type 0 where
 pub same-more : {len : ℕ} {a b : Memory} → SameBlocks len a b → MoreBlocks len a b
 same-more s = record { bits = λ n h e. sym (s .bits n h) ∙ e; bytes = s .bytes }
 
--- a page of the file: its size is a whole number of blocks and divides len, and its number is below P
+-- a page of the file: its size is a whole number of blocks, and its number is below P = len / size
 pub record InFile (len size number : ℕ) : Type 0 where
   pub whole : size % blockSize ≡ 0
-  pub some : 1 ≤ size
   pub inside : number < len / size
 
 module _ {len size number : ℕ} (p : InFile len size number) where

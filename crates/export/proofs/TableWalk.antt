@@ -53,7 +53,7 @@ module _ (len : ℕ) (m : Memory) (table : Table) where
 
 -- a link inside 1..P-1 names a page of the file
 pub in-file : {len : ℕ} (block : List ℕ) {number : ℕ} → Holding len block → linkable (len / len-page block) number ≡ true → InFile len (len-page block) number
-in-file {len} block {number} h e = record { whole = h .whole; some = omega (arith, h .least); inside = inside-both (len / len-page block) number e .1 }
+in-file {len} block {number} h e = record { whole = h .whole; inside = inside-both (len / len-page block) number e .1 }
 
 -- what relates a refusal to itself, and the two chains of each pointer of a header that holds, relates the walks from one first block
 module _ (len : ℕ) (a b : Memory) (table : Table) (R : Walk (List ℕ) → Walk (List ℕ) → Type 0) (refusal : (f : Fault) → R (refused f) (refused f))

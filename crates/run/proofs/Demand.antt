@@ -8,14 +8,15 @@ use Rattle.intake.specs.Check.{openFault, callFault}
 use Rattle.intake.specs.Memory.{Memory, memory}
 use Rattle.intake.specs.Received.{Received, nothing}
 use Rattle.intake.specs.Holds.{Holds}
-use Rattle.run.specs.Call.{Question, allRows, rowRecord, rowText, Call, asDelivery, rows, row, text, answer, reply}
+use Rattle.intake.specs.Run.{afterOpening}
+use Rattle.run.specs.Call.{Question, allRows, rowRecord, rowText, Call, deliver, ask, asDelivery, rows, row, text, answer, reply}
 use Rattle.run.specs.Demand.{endOf, receivedIn, SameReceived, Demand, EveryRun}
 use Rattle.intake.proofs.Accepted.{accepted}
 use Rattle.intake.proofs.Runs.{run-holds, run-sound, run-alike}
 use Rattle.export.proofs.Blocks.{SameBlocks, MoreBlocks}
 use Rattle.export.proofs.Questions.{ask-rows-same, ask-record-same, ask-text-same}
 use Rattle.run.proofs.Files.{received-sound, whole-sound, order-whole}
-use Rattle.run.proofs.Received.{holds-sized, same-received, same-whole, calls-keep, received-append, holds-more}
+use Rattle.run.proofs.Received.{holds-sized, same-received, same-whole, calls-keep, received-append, received-last, calls-last, holds-more}
 use Rattle.run.proofs.Kept.{keeps}
 
 -- each question, where the same blocks are held
@@ -44,6 +45,8 @@ module _ (len : ℕ) (before : Memory) (opens : openFault len (before .image) (b
       let allowed = accepted len (before .image) (before .map) opens .allowed in
       record {
         holds = at-end;
+        delivers = λ d. (calls-last len asDelivery calls (deliver d) (afterOpening len before), received-last len asDelivery calls (deliver d) nothing);
+        asks = λ q. (calls-last len asDelivery calls (ask q) (afterOpening len before), received-last len asDelivery calls (ask q) nothing);
         answers = answer-same sound (received-sound len allowed (receivedIn len calls) (holds-sized at-end opens)) (same-received at-end opens);
         alike = run-alike len before opens asDelivery calls;
         replies = λ others same call. ap (λ (m : Memory). reply len m call) (same-end others same);

@@ -19,8 +19,7 @@ use Rattle.intake.specs.Bit.{bit}
 use Rattle.intake.specs.Check.{callFault}
 use Rattle.intake.specs.Memory.{blockAt}
 use Rattle.intake.specs.Received.{Received, has}
-use Rattle.run.specs.File.{bytesOf, inOrder, marked, receivedFile, wholeFile}
-use Rattle.run.specs.Demand.{IsWhole}
+use Rattle.run.specs.File.{bytesOf, inOrder, marked, receivedFile, wholeFile, IsWhole}
 use Rattle.field.proofs.Choice.{on, never}
 use Rattle.intake.proofs.Digit.{digit-zero}
 use Rattle.intake.proofs.Bit.{zero-bit, bit-set, bit-other, map-length}

@@ -1,7 +1,9 @@
 -- What a question keeps of an earlier one (specs/Later), where more blocks are held than before.
---     placesWritten-rows, placesWritten-begin     the places that all rows writes are the rows found
---     settle-stays                a row that was found is found again, unless the walk is refused
---     keeps                       all of it
+--     written-found, begins-later     the places that all rows writes are the rows found, and later walks begin with them
+--     settle-stays                  a row that was found and answered is answered again, unless the walk is refused
+--     earlier-refused, refuses-all  a fault of the file's own is the walk's, and refuses every question on the table
+--     keeps                         all of it
+-- Rests on the growth of the walk (export: TableWalk) and on the questions (export: Questions).
 use mathlib.Core.Path.{_≡_, refl, sym, ap, _∙_}
 use mathlib.Core.Bool.{cond}
 use mathlib.Core.List.{List}
@@ -30,7 +32,9 @@ use Rattle.export.specs.Row.{Reply, answered, waits, refuses, settleRow}
 use Rattle.export.specs.Record.{recordAt, recordIn, askRecord}
 use Rattle.export.specs.Text.{TextPlace, textAt, textIn, askText}
 use Rattle.run.specs.Call.{Question, allRows, rowRecord, rowText, answer}
-use Rattle.run.specs.Later.{writtenIn, placesWritten, StaysAnswered, walkRefusal, rowRefusal, refusalOf, tableAsked, Keeps}
+use Rattle.run.specs.Written.{writtenIn, placesWritten}
+use Rattle.run.specs.Refusal.{walkRefusal, rowRefusal, refusalOf, tableAsked}
+use Rattle.run.specs.Later.{StaysAnswered, Keeps}
 use Rattle.field.proofs.Choice.{on, never}
 use Rattle.page.proofs.Laws.{Each}
 use Rattle.export.proofs.Blocks.{MoreBlocks}
@@ -48,8 +52,8 @@ front-written : (list rows : List ℕ) → length rows ≤ length list → take 
 front-written list rows h = rw (sets-eq rows list 0 (omega arith)) (take-append-seam rows (drop (0 + length rows) list))
 
 -- where 17 does not refuse, the places that are written are the rows found
-placesWritten-found : (list places : List ℕ) (w : Walk (List ℕ)) → placesWritten (settleRows list w) ≡ some places → rowsIn w ≡ some places
-placesWritten-found list places = by
+written-found : (list places : List ℕ) (w : Walk (List ℕ)) → placesWritten (settleRows list w) ≡ some places → rowsIn w ≡ some places
+written-found list places = by
   where
     long : (rows : List ℕ) (good : Walk ℕ) → writtenIn good (written list rows) ≡ some (take (length rows) (written list rows)) → placesWritten (placed list rows good) ≡ some places → some rows ≡ some places
     long rows good front e =
@@ -129,7 +133,7 @@ module _ {len : ℕ} {a b : Memory} (soundA : callFault len (a .image) (a .map) 
     where
       by : (t : Answer Table) → placesWritten (rowsOf len a list t) ≡ some places → placesWritten (rowsOf len b other t) ≡ some all → Begins places all
       by (given table) p q =
-          begins-later (tableWalk len a table) (tableWalk len b table) places all (grows table) (placesWritten-found list places (tableWalk len a table) p) (placesWritten-found other all (tableWalk len b table) q)
+          begins-later (tableWalk len a table) (tableWalk len b table) places all (grows table) (written-found list places (tableWalk len a table) p) (written-found other all (tableWalk len b table) q)
       by (unread r) p q = never (cc)
 
   keeps-record : (number k : ℕ) (x : Record) → askRecord len a number k ≡ answered x → StaysAnswered x (askRecord len b number k)

@@ -1,10 +1,10 @@
 -- The received blocks of a run and the memory at its end (intake/Holds), by the blocks that are held.
---     holds-sized        each received block has the length of a block
---     same-received      the run's memory holds the blocks that the received file holds
---     same-whole         with every block received, those of the whole file
---     calls-keep         a block that was received stays
---     calls-append, received-append     a run that goes on
---     holds-more         with the received blocks of a later place of the run, more blocks are held
+--     holds-sized          each received block has the length of a block
+--     same-received        the run's memory holds the blocks that the received file holds
+--     same-whole           with every block received, those of the whole file
+--     holds-more           with more blocks received, more are held, with the same bytes
+--     calls-keep           a block that was received stays
+--     received-append, calls-append, received-last, calls-last     a run that goes on, and one call more
 use mathlib.Core.Path.{_≡_, refl, sym, ap, _∙_}
 use mathlib.Core.Bool.{true}
 use mathlib.Core.List.{List, [], _∷_, _++_}
@@ -21,9 +21,8 @@ use Rattle.intake.specs.Check.{openFault}
 use Rattle.intake.specs.Memory.{Memory, blockAt}
 use Rattle.intake.specs.Received.{Delivery, Received, receive, has}
 use Rattle.intake.specs.Holds.{Holds}
-use Rattle.intake.specs.Run.{receiveCall, receiveCalls}
-use Rattle.run.specs.File.{bytesOf, receivedFile, wholeFile}
-use Rattle.run.specs.Demand.{IsWhole}
+use Rattle.intake.specs.Run.{afterCall, receiveCall, afterCalls, receiveCalls}
+use Rattle.run.specs.File.{bytesOf, receivedFile, wholeFile, IsWhole}
 use Rattle.field.proofs.Choice.{on, never}
 use Rattle.intake.proofs.Accepted.{accepted}
 use Rattle.intake.proofs.Image.{block-length}
@@ -94,3 +93,17 @@ module _ (len : ℕ) where
     unfolding receiveCalls
     received-append [] later r = refl
     received-append (call ∷ calls) later r = received-append calls later (receiveCall len (asDelivery call) r)
+
+    pub calls-append : (calls later : List Call) (m : Memory) → afterCalls asDelivery len (calls ++ later) m ≡ afterCalls asDelivery len later (afterCalls asDelivery len calls m)
+    unfolding afterCalls
+    calls-append [] later m = refl
+    calls-append (call ∷ calls) later m = calls-append calls later (afterCall len (asDelivery call) m)
+
+    -- one call more
+    pub received-last : (calls : List Call) (call : Call) (r : Received) → receiveCalls asDelivery len (calls ++ (call ∷ [])) r ≡ receiveCall len (asDelivery call) (receiveCalls asDelivery len calls r)
+    unfolding receiveCalls
+    received-last calls call r = received-append calls (call ∷ []) r
+
+    pub calls-last : (calls : List Call) (call : Call) (m : Memory) → afterCalls asDelivery len (calls ++ (call ∷ [])) m ≡ afterCall len (asDelivery call) (afterCalls asDelivery len calls m)
+    unfolding afterCalls
+    calls-last calls call m = calls-append calls (call ∷ []) m

@@ -1,13 +1,14 @@
 -- Document 01, Runs: the memory that the received blocks alone give, and that of a whole file.
+use mathlib.Core.Path.{_≡_}
 use mathlib.Core.Bool.{Bool, true, cond}
 use mathlib.Core.List.{List, [], _++_}
 use mathlib.Core.Option.{Option, none, some}
-use Prim.Native.Nat.{ℕ, zero, suc}
-use lib.ListN.{replicate}
+use Prim.Native.Nat.{ℕ, zero, suc, _<_}
+use lib.ListN.{length, replicate}
 use Rattle.field.specs.Size.{blockSize}
 use Rattle.intake.specs.Length.{blocksOf, countedOf}
 use Rattle.intake.specs.Bit.{withBit}
-use Rattle.intake.specs.Memory.{Memory, memory}
+use Rattle.intake.specs.Memory.{Memory, memory, blockAt}
 use Rattle.intake.specs.Received.{Received, has}
 
 -- a block's bytes, zeros where there is none
@@ -28,6 +29,11 @@ marked words held (suc n) = cond (held n) (withBit (marked words held n) n) (mar
 -- "held means in the book": image and map from the received blocks, and from nothing else
 unfoldable pub receivedFile : ℕ → Received → Memory
 receivedFile len r = memory (inOrder (blocksOf len) r) (marked (countedOf len) (λ (b : ℕ). has (r b)) (blocksOf len))
+
+-- a file of len bytes whose blocks, in order, are the received ones
+pub record IsWhole (len : ℕ) (r : Received) (file : List ℕ) : Type 0 where
+  pub long : length file ≡ len
+  pub blocks : (b : ℕ) → b < blocksOf len → r b ≡ some (blockAt file b)
 
 -- a file all of whose blocks are held
 unfoldable pub wholeFile : ℕ → List ℕ → Memory
