@@ -23,7 +23,7 @@ pub record TextPlace : Type 0 where
   pub len : ℕ
   pub encoding : Encoding
 
--- the text of a row at a place. A row that was found has no malformed string (proofs/Texts): 15 is the number that one would have.
+-- the text of a row at a place. A row that was found has no malformed string (proofs/FoundRows, `row-text`): 15 is the number that one would have.
 abbrev pub textReply : ℕ → ℕ → Text → Reply TextPlace
 textReply page row (At place len encoding) = answered (record { place = row + place; len = len; encoding = encoding })
 textReply page row Malformed = refuses (fault 15 page)

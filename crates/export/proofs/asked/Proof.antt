@@ -1,3 +1,4 @@
+-- `export::asked` meets its contract: the check's verdict chooses the case of `unlessFault`.
 use borrow.Author.Needs.{needs}
 use Rattle.export.specs.Walk.{askedTable}
 use Rattle.export.proofs.asked.Statement.{statement}

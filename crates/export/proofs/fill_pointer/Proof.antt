@@ -1,3 +1,4 @@
+-- `export::fill_pointer` meets its contract: the pointer's answer chooses the case of `pointerPlaces`.
 use borrow.Author.Needs.{needs}
 use Rattle.export.proofs.fill_pointer.Statement.{statement}
 use Rattle.export.proofs.fill_pointer.Tie as tie

@@ -1,3 +1,4 @@
+-- `export::fill_table` meets its contract: the header chooses the case of `tablePlaces`.
 use borrow.Author.Needs.{needs}
 use Rattle.export.specs.Places.{tablePlaces}
 use Rattle.export.proofs.fill_table.Statement.{statement}

@@ -1,3 +1,4 @@
+-- `export::find_row` meets its contract: what the walk counted says which case of `settleRow` it is (proofs/RowFound).
 use mathlib.Core.Path.{_∙_}
 use borrow.Author.Needs.{needs}
 use Rattle.intake.specs.Memory.{memory}

@@ -1,3 +1,4 @@
+-- `export::first_block` meets its contract: the part is the image's first 512 bytes, or all of it where it is shorter.
 use mathlib.Core.Path.{sym, _∙_, refl}
 use Prim.Native.Nat.{_-_}
 use native.Mathlib.Omega.{arith}

@@ -1,3 +1,4 @@
+-- `export::page_of` meets its contract: a quotient by 0 is 0.
 use mathlib.Core.Path.{sym}
 use native.Mathlib.Nat.{div-zero}
 use borrow.Author.Needs.{needs}

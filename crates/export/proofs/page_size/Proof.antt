@@ -1,3 +1,4 @@
+-- `export::page_size` meets its contract: the number is len_page of block 0.
 use borrow.Author.Needs.{needs}
 use Rattle.export.proofs.page_size.Statement.{statement}
 use Rattle.export.proofs.page_size.Tie as tie

@@ -1,3 +1,4 @@
+-- `export::place_along` meets its contract: by the loop's invariant `Locating` (proofs/Locating).
 use native.Mathlib.Omega.{arith}
 use borrow.Author.Needs.{needs}
 use Rattle.chain.specs.File.{pageNext}

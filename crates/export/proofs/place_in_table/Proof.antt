@@ -1,3 +1,4 @@
+-- `export::place_in_table` meets its contract: the header chooses the case of `tablePlaces`.
 use lib.Dec.{leb·suc-zero}
 use borrow.Author.Needs.{needs}
 use Rattle.export.specs.Places.{tablePlaces}

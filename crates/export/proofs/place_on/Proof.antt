@@ -1,3 +1,4 @@
+-- `export::place_on` meets its contract: row k among the page's starts, moved to the page's place (proofs/Locating).
 use Prim.Native.Nat.{_≤_, _*_}
 use native.Mathlib.Omega.{arith}
 use native.Mathlib.Nat.{mul-le-mul-right}

@@ -1,3 +1,4 @@
+-- `export::place_pointer` meets its contract: the pointer's answer chooses the case of `pointerPlaces`.
 use lib.Dec.{leb·suc-zero}
 use borrow.Author.Needs.{needs}
 use Rattle.export.proofs.place_pointer.Statement.{statement}

@@ -1,3 +1,4 @@
+-- `export::record` meets its contract: the table asked for chooses the case of `recordIn`.
 use borrow.Author.Needs.{needs}
 use Rattle.intake.specs.Memory.{memory}
 use Rattle.export.specs.Record.{askRecord}

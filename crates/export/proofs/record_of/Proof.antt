@@ -1,3 +1,4 @@
+-- `export::record_of` meets its contract: a reply about a row goes by its place (proofs/RowFound).
 use borrow.Author.Needs.{needs}
 use Rattle.intake.specs.Memory.{memory}
 use Rattle.export.specs.Walk.{tableWalk}

@@ -1,3 +1,4 @@
+-- `export::row_at` meets its contract: whether the place was found chooses the case of `atPlace`.
 use borrow.Author.Needs.{needs}
 use Rattle.export.proofs.row_at.Statement.{statement}
 use Rattle.export.proofs.row_at.Tie as tie

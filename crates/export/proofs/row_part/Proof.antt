@@ -1,3 +1,4 @@
+-- `export::row_part` meets its contract: a page of no bytes has no rows, and a row that starts past the index has no byte (proofs/RowParts).
 use mathlib.Core.Path.{sym}
 use Prim.Native.Nat.{_<_, _%_}
 use native.Mathlib.Omega.{arith}

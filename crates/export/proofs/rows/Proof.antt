@@ -1,3 +1,4 @@
+-- `export::rows` meets its contract: the table asked for chooses the case of `rowsOf`.
 use borrow.Author.Needs.{needs}
 use Rattle.intake.specs.Memory.{memory}
 use Rattle.export.specs.Rows.{askRows}

@@ -1,3 +1,4 @@
+-- `export::rows_of` meets its contract: what the walk counted says which case of `settleRows` it is (proofs/Settling), and the places written are the rows found (proofs/Placing).
 use borrow.Author.Needs.{needs}
 use Rattle.intake.specs.Memory.{memory}
 use Rattle.export.specs.Places.{tablePlaces}

@@ -1,3 +1,4 @@
+-- `export::text` meets its contract: the table asked for chooses the case of `textIn`.
 use borrow.Author.Needs.{needs}
 use Rattle.intake.specs.Memory.{memory}
 use Rattle.export.specs.Text.{askText}

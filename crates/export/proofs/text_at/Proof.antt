@@ -1,3 +1,4 @@
+-- `export::text_at` meets its contract: the slot's text chooses the case of `textReply`, and its place lies inside the row's part (proofs/TextInside).
 use native.Mathlib.Omega.{arith}
 use borrow.Author.Needs.{needs}
 use Rattle.export.proofs.TextInside.{text-within}

@@ -1,3 +1,4 @@
+-- `export::text_of` meets its contract: the slot's test comes first, and then a reply about a row goes by its place (proofs/RowFound).
 use borrow.Author.Needs.{needs}
 use borrow.Author.Tests.{le-ltb, lt-ltb}
 use Rattle.intake.specs.Memory.{memory}

@@ -1,3 +1,4 @@
+-- `export::walk_pointer` meets its contract: the pointer's answer chooses the case of `pointerWalk`.
 use borrow.Author.Needs.{needs}
 use Rattle.export.proofs.walk_pointer.Statement.{statement}
 use Rattle.export.proofs.walk_pointer.Tie as tie

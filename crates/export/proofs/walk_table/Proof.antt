@@ -1,3 +1,4 @@
+-- `export::walk_table` meets its contract: block 0's bit and the header choose the case of `tableWalk` (proofs/Start).
 use mathlib.Core.Path.{sym, _∙_, ap}
 use borrow.Author.Needs.{needs}
 use borrow.Author.Tests.{not-true, not-false}
