@@ -97,6 +97,13 @@ pub record Going (pages : Pages) (first rows n mark holder page : ℕ) : Type 0 
   pub low : rows ≤ 0xffff_ffff * n
   pub rest : tally (walkFrom pages first) ≡ ahead rows n (tally (walk pages (suc (pages .count) - n) met holder page))
 
+-- a turn that has come to reading its page
+pub record OnPage (pages : Pages) (first rows n mark holder page : ℕ) : Type 0 where
+  pub going : Going pages first rows n mark holder page
+  pub inside : linkable (pages .count) page ≡ true
+  pub held : pages .held page ≡ true
+  pub left : n + 1 < most (pages .count)
+
 pub begin : (pages : Pages) (first : ℕ) → first < 0x1_0000_0000 → Going pages first 0 0 0 0 first
 unfolding walkFrom isMet
 begin pages first h =

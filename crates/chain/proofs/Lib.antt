@@ -12,3 +12,4 @@ pub mod Reading
 pub mod Stores
 pub mod Writing
 pub mod Permitted
+pub mod FileAgree

@@ -4,3 +4,4 @@ pub mod Along
 pub mod Tally
 pub mod Held
 pub mod File
+pub mod Reads

@@ -96,7 +96,8 @@ module _ {len : ℕ} {a b : Memory} (soundA : callFault len (a .image) (a .map) 
       chains : (block : List ℕ) → Holding len block → (p : Pointer) → pointerWalk (directoryOf len block) a table (given p) ≡ pointerWalk (directoryOf len block) b table (given p)
       chains block h p =
           walk-from-same
-          (record { count = refl; last = refl; held = λ page i. held-same same (in-file block h i); read = same-read more block h; next = same-next more block h })
+          (record { count = refl; last = refl; held = λ page i. held-same same (in-file block h i) })
+          (λ page i e. record { read = same-read more block h page i e; next = same-next more block h page i e })
           (p .«first_page»)
 
   pub table-walk-grows : MoreBlocks len a b → Grows (tableWalk len a table) (tableWalk len b table)

@@ -1,12 +1,14 @@
 -- `chain::walk` meets its contract, by the loop's invariant `Going` (proofs/Going): each way out is one of its laws.
-use mathlib.Core.Path.{sym, _∙_}
+use mathlib.Core.Path.{_≡_, sym, _∙_}
 use mathlib.Core.Logic.{⊎-elim, inl, inr}
-use Prim.Native.Nat.{_-_}
+use Prim.Native.Nat.{_-_, _≤_}
 use native.Mathlib.Omega.{arith}
 use borrow.Author.Needs.{needs}
 use borrow.Author.Tests.{not-true, not-false}
-use Rattle.chain.specs.File.{filePages}
-use Rattle.chain.proofs.Going.{Going, begin, outside, stopped, going-on, rows-room, missing, faulty, at-last, onward}
+use Rattle.field.specs.Fault.{given}
+use Rattle.page.specs.Read.{readPage, counted}
+use Rattle.chain.specs.File.{pagePart, filePages}
+use Rattle.chain.proofs.Going.{Going, OnPage, begin, outside, stopped, going-on, rows-room, missing, faulty, at-last, onward}
 use Rattle.chain.proofs.PageParts.{part-next}
 use Rattle.chain.proofs.Reading.{read-given, read-refused, found-low}
 use Rattle.chain.proofs.walk.Statement.{statement}
@@ -51,45 +53,51 @@ read-requires c κs = search needs
 enum-known-refusal : tie.Need-enum-known-refusal Inv-loop μ-loop
 enum-known-refusal c = search needs
 
+-- the page is held, and is about to be read
+turn : (c : tie.Else3 Inv-loop μ-loop) →
+    let args = c .before .before .before .before .before .before .before .before .before .args in
+    let loop = c .before .before .before .before .before .before .loop in
+    OnPage (filePages (args .size) (args .count) (args .last) (args .table) (args .image .now) (args .map .now)) (args .first) (loop .rows) (loop .pages) (loop .mark) (loop .holder) (loop .page)
+turn c =
+    let test = c .before .before .before .before in
+    let going = test .before .before .loop .inv in
+    record {
+      going = going;
+      inside = sym (test .before .linkable .ensures) ∙ test .if1 .taken;
+      held = sym (c .before .is-held .ensures) ∙ not-false _ (c .if3 .left);
+      left = going-on going (c .before .before .before .is-again .ensures) (c .before .before .if2 .left);
+    }
+
 returns-3 : tie.Need-returns-3 Inv-loop μ-loop
 returns-3 c =
-    let read = c in
-    let held = read .before .before .before .before .before in
-    let again = held .before .before in
-    let test = again .before .before in
-    let inv = test .before .before .loop .inv in
-    let inside = sym (test .before .linkable .ensures) ∙ test .if1 .taken in
-    faulty inv inside (sym (held .before .is-held .ensures) ∙ not-false _ (held .if3 .left)) _ (read-refused _ _ _ _ (read .before .before .before .before .part .ensures) (read .before .before .before .read .ensures) (read .before .refusal .given .1))
+    let here = turn (c .before .before .before .before .before) in
+    faulty (here .going) (here .inside) (here .held) _ (read-refused _ _ _ _ (c .before .before .before .before .part .ensures) (c .before .before .before .read .ensures) (c .before .refusal .given .1))
 
 enum-known-found : tie.Need-enum-known-found Inv-loop μ-loop
 enum-known-found c = search needs
 
+-- the page's rows, and that they are few
+count : (c : tie.After-known-told2 Inv-loop μ-loop) →
+    let args = c .before .before .before .before .before .before .before .before .before .before .before .before .before .before .args in
+    let page = c .before .before .before .before .before .before .before .before .before .before .before .loop .page in
+    (given (c .before .found .given .0 .0) ≡ counted (readPage page (args .table) (pagePart (args .size) (args .image .now) page))) × (c .before .found .given .0 .0 ≤ 0xffff_ffff)
+count c =
+    let start = c .before .before .before .before .before .before .before .before .before .before .before .before .before .before in
+    let e = read-given (start .args .size) (start .args .image .now) (c .before .before .before .before .before .before .before .before .before .before .before .loop .page) (start .args .table) (c .before .before .before .before .part .ensures) (c .before .before .before .read .ensures) (c .before .found .given .1) in
+    (e, omega (arith, found-low (start .args .size) (start .args .image .now) (c .before .before .before .before .before .before .before .before .before .before .before .loop .page) (start .args .table) (c .before .found .given .0 .0) e, start .fits))
+
 add-rows : tie.Need-add-rows Inv-loop μ-loop
 add-rows c =
-    let read = c in
-    let held = read .before .before .before .before .before in
-    let again = held .before .before in
-    let test = again .before .before in
-    let inv = test .before .before .loop .inv in
-    let start = test .before .before .before .before .before in
-    let args = start .args in
-    let count = read-given _ _ _ _ (read .before .before .before .before .part .ensures) (read .before .before .before .read .ensures) (read .before .found .given .1) in
-    let few = found-low (args .size) (args .image .now) (test .before .before .loop .page) (args .table) (read .before .found .given .0 .0) count in
-    let left = going-on inv (again .before .is-again .ensures) (again .if2 .left) in
-    record { fits = rows-room inv left (omega (arith, few, start .fits)) }
+    let here = turn (c .before .before .before .before .before) in
+    record { fits = rows-room (here .going) (here .left) (count c .1) }
 
 add-pages : tie.Need-add-pages Inv-loop μ-loop
 add-pages c = omega (arith, c .before .before .before .before .before .before .before .before .before .before .before .loop .inv .room)
 
 returns-4 : tie.Need-returns-4 Inv-loop μ-loop
 returns-4 c =
-    let read = c .before in
-    let held = read .before .before .before .before .before in
-    let again = held .before .before in
-    let test = again .before .before in
-    let inv = test .before .before .loop .inv in
-    let inside = sym (test .before .linkable .ensures) ∙ test .if1 .taken in
-    at-last inv inside (sym (held .before .is-held .ensures) ∙ not-false _ (held .if3 .left)) (read-given _ _ _ _ (read .before .before .before .before .part .ensures) (read .before .before .before .read .ensures) (read .before .found .given .1)) (c .if4 .taken)
+    let here = turn (c .before .before .before .before .before .before) in
+    at-last (here .going) (here .inside) (here .held) (count (c .before) .0) (c .if4 .taken)
 
 next-requires : tie.Need-next-requires Inv-loop μ-loop
 next-requires c κs = search needs
@@ -99,18 +107,11 @@ loop-less c = omega (arith, c .before .before .before .before .before .before .b
 
 loop-again : tie.Need-loop-again Inv-loop μ-loop
 loop-again c =
-    let read = c .before .before .before in
-    let held = read .before .before .before .before .before in
-    let again = held .before .before in
-    let test = again .before .before in
-    let inv = test .before .before .loop .inv in
-    let inside = sym (test .before .linkable .ensures) ∙ test .if1 .taken in
-    let start = test .before .before .before .before .before in
-    let args = start .args in
-    let count = read-given _ _ _ _ (read .before .before .before .before .part .ensures) (read .before .before .before .read .ensures) (read .before .found .given .1) in
-    let few = found-low (args .size) (args .image .now) (test .before .before .loop .page) (args .table) (read .before .found .given .0 .0) count in
-    let left = going-on inv (again .before .is-again .ensures) (again .if2 .left) in
-    onward inv inside (sym (held .before .is-held .ensures) ∙ not-false _ (held .if3 .left)) count (omega arith) left (omega (arith, few, start .fits)) (c .before .before .if4 .left) (part-next _ _ _ (read .before .before .before .before .part .ensures) (c .next .ensures)) (⊎-elim (λ w. inr (w .1)) (λ w. inl (w .1)) (c .before .if5 .came))
+    let here = turn (c .before .before .before .before .before .before .before .before) in
+    let found = count (c .before .before .before) in
+    let next = part-next _ _ _ (c .before .before .before .before .before .before .before .part .ensures) (c .next .ensures) in
+    onward (here .going) (here .inside) (here .held) (found .0) (omega arith) (here .left) (found .1) (c .before .before .if4 .left) next
+    (⊎-elim (λ w. inr (w .1)) (λ w. inl (w .1)) (c .before .if5 .came))
 
 returns-5 : tie.Need-returns-5 Inv-loop μ-loop
 returns-5 c = outside (c .before .before .loop .inv) (sym (c .before .linkable .ensures) ∙ c .if1 .left)
