@@ -95,12 +95,8 @@ pub fn walk(
         }
         let bytes = part(image, page, size);
         match page::read(bytes, page, table) {
-            PageRead::Refused(refusal) => {
-                return Walked::Refused(refusal);
-            }
-            PageRead::Rows(found) => {
-                rows += found;
-            }
+            PageRead::Refused(refusal) => return Walked::Refused(refusal),
+            PageRead::Rows(found) => rows += found,
         }
         pages += 1;
         if page == last {
