@@ -1,4 +1,4 @@
--- Document 01, Runs: the places that a question for all rows shows.
+-- The places that a question for all rows has written: what document 01, Runs, calls shown rows.
 use mathlib.Core.List.{List}
 use mathlib.Core.Option.{Option, none, some}
 use Prim.Native.Nat.{ℕ}
