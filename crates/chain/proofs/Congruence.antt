@@ -1,4 +1,5 @@
 -- Congruence: two page layers that hold the same pages, and agree on those that the walk reads, give the same walk.
+--     comes, reads-here, reads-behind     the pages that a walk reads: the one it comes to, and those behind it
 --     walk-from-agree     they agree on the pages that the walk reads: a page off the chain changes nothing
 --     walk-from-same      they agree on the pages held: what stands on a page that is not held changes nothing
 use mathlib.Core.Path.{_≡_, refl, ap, _∙_}
@@ -33,15 +34,15 @@ then-same (given rows) {w = w} e f = rw (f refl) (ap (λ (x : Answer (List ℕ))
 then-same (unread f) {w = w} e g = ap (λ (x : Answer (List ℕ)). readThen x w) e
 
 module _ (a : Pages) (fuel : ℕ) (met : List ℕ) (page : ℕ) where
-  comes : linkable (a .count) page ≡ true → isMet page met ≡ false → a .held page ≡ true → comesTo a met page ≡ true
+  pub comes : linkable (a .count) page ≡ true → isMet page met ≡ false → a .held page ≡ true → comesTo a met page ≡ true
   unfolding comesTo
   comes i m h = rw (i, m, h)
 
-  reads-here : comesTo a met page ≡ true → reads a (suc fuel) met page page ≡ true
+  pub reads-here : comesTo a met page ≡ true → reads a (suc fuel) met page page ≡ true
   unfolding reads
   reads-here e = rw (e, eq-eqb page page refl)
 
-  reads-behind : comesTo a met page ≡ true → isGiven (a .read page) ≡ true → eqb page (a .last) ≡ false → (q : ℕ) → reads a fuel (page ∷ met) (a .next page) q ≡ true → reads a (suc fuel) met page q ≡ true
+  pub reads-behind : comesTo a met page ≡ true → isGiven (a .read page) ≡ true → eqb page (a .last) ≡ false → (q : ℕ) → reads a fuel (page ∷ met) (a .next page) q ≡ true → reads a (suc fuel) met page q ≡ true
   unfolding reads goesOn
   reads-behind e g l q r = rw (e, g, l) (or-right (eqb q page) r)
 

@@ -19,7 +19,7 @@ use Rattle.field.specs.Place.{linkable}
 use Rattle.chain.specs.Walk.{full, waiting, refused, walkFrom}
 use Rattle.chain.specs.File.{pagePart, filePages, pagePlaces, chainPlaces}
 use Rattle.page.proofs.Cases.{places-low}
-use Rattle.page.proofs.Laws.{page-rows, page-answer, PageAnswer}
+use Rattle.page.proofs.Laws.{page-read, page-refused}
 use Rattle.chain.proofs.PagesMet.{inside-both}
 use Rattle.chain.proofs.Passed.{PassedBy, pages-passed}
 use Rattle.chain.proofs.Faults.{Numbered, chain-fault, fault-numbered}
@@ -46,7 +46,7 @@ module _ {size count : ℕ} {image : List ℕ} (f : Permitted size count image) 
   page-found table number rows i e =
       let h = inside-both count number i .1 in
       places-low (pagePart size image number) (number * size) (places-fit number h)
-      ∙ sym (rw (part-length number h) at (page-rows number table (pagePart size image number) rows e))
+      ∙ sym (rw (part-length number h) at (page-read number table (pagePart size image number) rows e .found))
 
   module _ (last : ℕ) (table : Table) (map : List ℕ) (first : ℕ) where
     pub full-places : (rows : List ℕ) (n : ℕ) → walkFrom (filePages size count last table image map) first ≡ full rows n → chainPlaces size image n first ≡ rows
@@ -64,7 +64,7 @@ module _ {size count : ℕ} {image : List ℕ} (f : Permitted size count image) 
 -- of any file
 module _ (size count last : ℕ) (table : Table) (image map : List ℕ) (first : ℕ) where
   page-fault : (number : ℕ) (f : Fault) → readPage number table (pagePart size image number) ≡ unread f → (12 ≤ f .number) × (f .number ≤ 15) × (f .carries ≡ number)
-  page-fault number f e = subst (PageAnswer number (pagePart size image number)) e (page-answer number table (pagePart size image number))
+  page-fault number f e = page-refused number table (pagePart size image number) f e
 
   pub file-faults : (f : Fault) → walkFrom (filePages size count last table image map) first ≡ refused f → Numbered count f
   file-faults f e = fault-numbered (filePages size count last table image map) first page-fault f (chain-fault (filePages size count last table image map) first f e)

@@ -18,7 +18,7 @@ use Rattle.page.specs.Index.{indexSize}
 use Rattle.page.specs.Read.{indexFits, rowStarts, readPage, counted, pageAnswer}
 use Rattle.chain.specs.File.{pagePart}
 use Rattle.field.proofs.Choice.{on, never}
-use Rattle.page.proofs.Laws.{few-rows, page-rows}
+use Rattle.page.proofs.Laws.{few-rows, page-read}
 use Rattle.chain.proofs.PageParts.{part-short}
 
 -- an entry takes at least a byte of the index
@@ -48,7 +48,7 @@ module _ {page : List ℕ} (size : ℕ) (image : List ℕ) (number : ℕ) (table
 count-short : (number : ℕ) (table : Table) (page : List ℕ) (a : Answer (List ℕ)) → readPage number table page ≡ a → (found : ℕ) → given found ≡ counted a → found ≤ length page
 count-short number table page (given rows) e found k =
     let n : found ≡ length rows = cc in
-    let m = ap length (page-rows number table page rows e) ∙ length-map (rowStarts page) (λ (row : ℕ). number * length page + row) in
+    let m = ap length (page-read number table page rows e .found) ∙ length-map (rowStarts page) (λ (row : ℕ). number * length page + row) in
     omega (arith, rows-short page)
 count-short number table page (refused f) e found k = never (cc)
 

@@ -8,7 +8,7 @@ use lib.Dec.{eqb}
 use Rattle.field.specs.Number.{le32}
 use Rattle.field.specs.Agree.{Agree, within}
 use Rattle.directory.specs.declared.Pointer.{Pointer}
-use Rattle.directory.specs.Header.{num-tables, type, pointerAt, allowedTables, hasType, typeTwice, tablesHold, headerHolds}
+use Rattle.directory.specs.Header.{len-page, num-tables, type, pointerAt, allowedTables, hasType, typeTwice, tablesHold, headerHolds}
 use Rattle.directory.specs.Directory.{pointerOf, pointersFrom, kept, headerOf}
 use Rattle.directory.specs.Bytes.{directoryByte}
 use Rattle.field.proofs.Choice.{on, or-left, or-right}
@@ -19,6 +19,9 @@ module _ {s t : List ℕ} (a : Agree (directoryByte s) s t) where
   field-agree : (at : ℕ) → at + 4 ≤ 0x0c → le32 s at ≡ le32 t at
   unfolding directoryByte
   field-agree at h = le32-agree at (agree-less (λ i e. or-left _ (within-less at 4 0x00 0x0c i (omega arith) (omega arith) e)) a)
+
+  pub size-agree : len-page s ≡ len-page t
+  size-agree = field-agree 0x04 (omega arith)
 
   module _ (ok : allowedTables (num-tables s) ≡ true) where
     pointers-agree : Agree (within (pointerAt 0) (16 * num-tables s)) s t
@@ -58,7 +61,6 @@ module _ {s t : List ℕ} (a : Agree (directoryByte s) s t) where
   unfolding headerOf headerHolds tablesHold
   header-agree len =
       let zeros-agree = field-agree 0x00 (omega arith) in
-      let page-agree = field-agree 0x04 (omega arith) in
       let tables-agree = field-agree 0x08 (omega arith) in
-      rw (zeros-agree, page-agree, ← tables-agree)
+      rw (zeros-agree, size-agree, ← tables-agree)
       (on (allowedTables (num-tables s)) (λ e. rw (twice-agree e, kept-agree e)) (λ e. simp (e, and-false)))

@@ -9,11 +9,12 @@ use native.Mathlib.Omega.{arith}
 use lib.ListN.{length, getD}
 use lib.Dec.{eqb}
 use Rattle.field.specs.Fault.{Answer, given, refused as unread}
-use Rattle.field.specs.Place.{linkable}
 use Rattle.chain.specs.Walk.{Pages, Walk, full, waiting, refused, inFront, readThen, walk, walkFrom}
+use Rattle.chain.specs.Reads.{isGiven, reads, readsFrom}
 use Rattle.field.proofs.Choice.{cond-holds}
 use Rattle.page.proofs.Laws.{Each}
 use Rattle.chain.proofs.Steps.{behind, step-holds}
+use Rattle.chain.proofs.Congruence.{comes, reads-here, reads-behind}
 
 -- P holds of each row found
 abbrev pub EachFound : (ℕ → Type 0) → Walk (List ℕ) → Type 0
@@ -45,19 +46,22 @@ module _ (P : ℕ → Type 0) where
   found-front rows e (waiting page rest n) f = each-append P rows rest e f
   found-front rows e (refused g) f = tt
 
-  found-read : (r : Answer (List ℕ)) → ((rows : List ℕ) → r ≡ given rows → Each P rows) → (w : Walk (List ℕ)) → EachFound P w → EachFound P (readThen r w)
-  found-read (given rows) e w f = found-front rows (e rows refl) w f
+  found-read : (r : Answer (List ℕ)) → ((rows : List ℕ) → r ≡ given rows → Each P rows) → (w : Walk (List ℕ)) → (isGiven r ≡ true → EachFound P w) → EachFound P (readThen r w)
+  found-read (given rows) e w f = found-front rows (e rows refl) w (f refl)
   found-read (unread g) e w f = tt
 
-  module _ (pages : Pages) (each : (page : ℕ) (rows : List ℕ) → linkable (pages .count) page ≡ true → pages .held page ≡ true → pages .read page ≡ given rows → Each P rows) where
-    found-walk : (fuel : ℕ) (met : List ℕ) (holder page : ℕ) → EachFound P (walk pages fuel met holder page)
+  module _ (pages : Pages) where
+    found-walk : (fuel : ℕ) (met : List ℕ) (holder page : ℕ) → ((q : ℕ) (rows : List ℕ) → reads pages fuel met page q ≡ true → pages .read q ≡ given rows → Each P rows)
+        → EachFound P (walk pages fuel met holder page)
     unfolding walk behind
-    found-walk zero met holder page = tt
-    found-walk (suc fuel) met holder page =
+    found-walk zero met holder page each = tt
+    found-walk (suc fuel) met holder page each =
         step-holds pages fuel met holder page (EachFound P) (λ _. tt) tt (λ _ _ _. tt)
-        (λ i m h. found-read (pages .read page) (λ rows e. each page rows i h e) (behind pages fuel met holder page)
-        (cond-holds (EachFound P) (eqb page (pages .last)) (λ _. tt) (λ _. found-walk fuel (page ∷ met) page (pages .next page))))
+        (λ i m h. let come = comes pages fuel met page i m h in
+        found-read (pages .read page) (λ rows e. each page rows (reads-here pages fuel met page come) e) (behind pages fuel met holder page)
+        (λ g. cond-holds (EachFound P) (eqb page (pages .last)) (λ _. tt)
+        (λ l. found-walk fuel (page ∷ met) page (pages .next page) (λ q rows r. each q rows (reads-behind pages fuel met page come g l q r)))))
 
-    pub found-each : (first : ℕ) → EachFound P (walkFrom pages first)
-    unfolding walkFrom
-    found-each first = found-walk (suc (pages .count)) [] 0 first
+    pub found-each : (first : ℕ) → ((q : ℕ) (rows : List ℕ) → readsFrom pages first q ≡ true → pages .read q ≡ given rows → Each P rows) → EachFound P (walkFrom pages first)
+    unfolding walkFrom readsFrom
+    found-each first each = found-walk (suc (pages .count)) [] 0 first each

@@ -1,6 +1,7 @@
 pub mod Start
 pub mod Blocks
 pub mod TableWalk
+pub mod Walked
 pub mod Found
 pub mod FoundRows
 pub mod Questions

@@ -27,7 +27,7 @@ use Rattle.intake.specs.Check.{callFault}
 use Rattle.intake.specs.Memory.{Memory}
 use Rattle.chain.specs.Walk.{Walk, full, waiting, refused}
 use Rattle.export.specs.OwnFault.{OwnFault}
-use Rattle.export.specs.Walk.{tableWalk, askedTable}
+use Rattle.export.specs.Walk.{sizeOf, tableWalk, askedTable}
 use Rattle.export.specs.Rows.{placed, settleRows, rowsOf, rowsOutcome, askRows}
 use Rattle.export.specs.Row.{Reply, answered, waits, refuses, settleRow, rowPart}
 use Rattle.export.specs.Record.{recordAt, recordIn, askRecord}
@@ -37,7 +37,7 @@ use Rattle.page.proofs.Laws.{Each}
 use Rattle.export.proofs.Blocks.{SameBlocks, MoreBlocks, same-more}
 use Rattle.export.proofs.TableWalk.{table-walk-same}
 use Rattle.export.proofs.Found.{EachFound, each-at, found-of}
-use Rattle.export.proofs.FoundRows.{sizeOf, FoundRow, rows-found, row-same, size-same, row-text}
+use Rattle.export.proofs.FoundRows.{FoundRow, rows-found, row-same, size-same, row-text}
 
 -- a question that refusals 1 to 4 do not apply to
 module _ (len : ℕ) (m : Memory) (sound : callFault len (m .image) (m .map) ≡ none) where

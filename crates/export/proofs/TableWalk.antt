@@ -45,11 +45,11 @@ chainWalk len block m table = pointerWalk (directoryOf len block) m table (point
 
 module _ (len : ℕ) (m : Memory) (table : Table) where
   pub table-walk-holds : (P : Walk (List ℕ) → Type 0) → P (waiting 0 [] 0) → P (refused (fault 9 0))
-      → (bit (m .map) 0 ≡ true → Holding len (blockAt (m .image) 0) → P (chainWalk len (blockAt (m .image) 0) m table)) → P (tableWalk len m table)
+      → (bit (m .map) 0 ≡ true → headerHolds len (blockAt (m .image) 0) ≡ true → P (chainWalk len (blockAt (m .image) 0) m table)) → P (tableWalk len m table)
   unfolding tableWalk headerOf
   table-walk-holds P missing broken chain =
       let block = blockAt (m .image) 0 in
-      on (bit (m .map) 0) (λ e. on (headerHolds len block) (λ h. rw (e, h) (chain e (holding len block h))) (λ h. rw (e, h) broken)) (λ e. rw e missing)
+      on (bit (m .map) 0) (λ e. on (headerHolds len block) (λ h. rw (e, h) (chain e h)) (λ h. rw (e, h) broken)) (λ e. rw e missing)
 
 -- a link inside 1..P-1 names a page of the file
 pub in-file : {len : ℕ} (block : List ℕ) {number : ℕ} → Holding len block → linkable (len / len-page block) number ≡ true → InFile len (len-page block) number

@@ -1,5 +1,6 @@
 pub mod OwnFault
 pub mod Walk
+pub mod Reads
 pub mod Places
 pub mod Place
 pub mod Rows

@@ -1,6 +1,5 @@
 -- Document 01, Questions: "string slot s of record k, answered by place, length in bytes and encoding".
 use mathlib.Core.Bool.{cond}
-use mathlib.Core.List.{List}
 use Prim.Native.Nat.{ℕ, _+_, _/_}
 use lib.Dec.{ltb}
 use Rattle.field.specs.Fault.{fault, faultOf, Answer, given, refused as unread}
@@ -10,11 +9,10 @@ use Rattle.text.specs.declared.Text.the-variants.{At, Malformed}
 use Rattle.row.specs.declared.Table.{Table}
 use Rattle.row.specs.Layout.{slotCount}
 use Rattle.row.specs.Slot.{slotText}
-use Rattle.intake.specs.Memory.{Memory, blockAt}
-use Rattle.directory.specs.Header.{len-page}
+use Rattle.intake.specs.Memory.{Memory}
 use Rattle.export.specs.declared.TextReply.{TextReply}
 use Rattle.export.specs.declared.TextReply.the-variants.{Found, Waiting, Refused}
-use Rattle.export.specs.Walk.{tableWalk, askedTable}
+use Rattle.export.specs.Walk.{sizeOf, tableWalk, askedTable}
 use Rattle.export.specs.Row.{Reply, answered, waits, refuses, settleRow, rowPart}
 
 -- a text's place in the image, its length in bytes and its encoding
@@ -30,7 +28,7 @@ textReply page row Malformed = refuses (fault 15 page)
 
 abbrev pub textAt : Memory → Table → ℕ → ℕ → Reply TextPlace
 textAt m table slot place =
-    textReply (place / len-page (blockAt (m .image) 0)) place (slotText table (rowPart (len-page (blockAt (m .image) 0)) (m .image) place) slot)
+    textReply (place / sizeOf m) place (slotText table (rowPart (sizeOf m) (m .image) place) slot)
 
 -- 19: "the table has no such string slot", after 8 and before the file
 abbrev pub textIn : ℕ → Memory → ℕ → ℕ → Answer Table → Reply TextPlace

@@ -12,10 +12,15 @@ use Rattle.intake.specs.Check.{callFault}
 use Rattle.directory.specs.declared.Pointer.{Pointer}
 use Rattle.directory.specs.declared.Directory.{Directory}
 use Rattle.directory.specs.declared.Header.{Header}
+use Rattle.directory.specs.Header.{len-page}
 use Rattle.directory.specs.Directory.{headerOf}
 use Rattle.directory.specs.Pointer.{pointerFor}
 use Rattle.chain.specs.Walk.{Walk, waiting, refused, walkFrom}
 use Rattle.chain.specs.File.{filePages}
+
+-- len_page, as block 0 has it
+abbrev pub sizeOf : Memory → ℕ
+sizeOf m = len-page (blockAt (m .image) 0)
 
 -- "For the asked pointer": the chain from its first_page to its last_page
 abbrev pub pointerWalk : Directory → Memory → Table → Answer Pointer → Walk (List ℕ)

@@ -1,6 +1,6 @@
 -- The agreement laws of numbers, and how agreement on a whole gives agreement on its parts.
 use mathlib.Core.Path.{_≡_, sym, _∙_}
-use mathlib.Core.Bool.{Bool, true, _&&_, false≢true}
+use mathlib.Core.Bool.{Bool, true, _&&_}
 use mathlib.Core.List.{List}
 use Prim.Native.Nat.{ℕ, _+_, _*_, _<_, _≤_}
 use native.Mathlib.Omega.{arith}
@@ -11,19 +11,23 @@ use borrow.Author.Tests.{le-leb, lt-ltb, ltb-true, ltb-false, leb-true}
 use Rattle.field.specs.Number.{byteAt, le16, le32}
 use Rattle.field.specs.Agree.{Agree, within}
 use Rattle.field.proofs.Number.{byte-past, le32-bytes}
-use Rattle.field.proofs.Choice.{on}
+use Rattle.field.proofs.Choice.{on, both-true}
 
 pub within-true : (from size i : ℕ) → from ≤ i → i < from + size → within from size i ≡ true
 unfolding within
 within-true from size i h k = rw (le-leb from i h, lt-ltb i (from + size) k)
 
+pub within-both : (from size i : ℕ) → within from size i ≡ true → (from ≤ i) × (i < from + size)
+unfolding within
+within-both from size i e =
+    let both = both-true (leb from i) (ltb i (from + size)) e in
+    (leb-true from i (both .0), ltb-true i (from + size) (both .1))
+
 -- a run of bytes inside another one
 pub within-less : (from size outer span i : ℕ) → outer ≤ from → from + size ≤ outer + span → within from size i ≡ true → within outer span i ≡ true
-unfolding within
 within-less from size outer span i h k e =
-    on (leb from i)
-    (λ f. rw (le-leb outer i (omega (arith, leb-true from i f)), lt-ltb i (outer + span) (omega (arith, ltb-true i (from + size) (rw f at e)))))
-    (λ f. absurd (false≢true (rw f at e)))
+    let both = within-both from size i e in
+    within-true outer span i (omega arith) (omega arith)
 
 pub agree-less : {p q : ℕ → Bool} {s t : List ℕ} → ((i : ℕ) → p i ≡ true → q i ≡ true) → Agree q s t → Agree p s t
 agree-less f a = record { long = a .long; same = λ i e. a .same i (f i e) }

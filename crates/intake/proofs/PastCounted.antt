@@ -1,4 +1,5 @@
 -- Bytes past L and words past the counted ones (specs/Counted), on all inputs.
+--     bit-agree, block-agree, call-agree     two memories that differ in such places alone have the same bits, blocks and faults 1 to 4
 --     unread           no such byte or word changes the answer to a delivery
 --     unwritten        no delivery writes one
 --     open-unwritten   nor does an opening, which looks at lengths alone
@@ -36,11 +37,11 @@ same-front : (s t : List ℕ) (n i : ℕ) → take n s ≡ take n t → i < n �
 same-front s t n i e h = sym (getD-take n s i 0 h) ∙ ap (λ (x : List ℕ). getD x i 0) e ∙ getD-take n t i 0 h
 
 module _ {len : ℕ} {m n : Memory} (a : SameCounted len m n) where
-  bit-agree : (b : ℕ) → b / 64 < countedOf len → bit (m .map) b ≡ bit (n .map) b
+  pub bit-agree : (b : ℕ) → b / 64 < countedOf len → bit (m .map) b ≡ bit (n .map) b
   unfolding bit
   bit-agree b h = rw (same-front (m .map) (n .map) (countedOf len) (b / 64) (a .words) h)
 
-  block-agree : (block : ℕ) → block < blocksOf len → blockAt (m .image) block ≡ blockAt (n .image) block
+  pub block-agree : (block : ℕ) → block < blocksOf len → blockAt (m .image) block ≡ blockAt (n .image) block
   block-agree block h =
       same-block (m .image) (n .image) block (a .imageLength) (λ j l. same-front (m .image) (n .image) len (block * blockSize + j) (a .bytes) (omega arith))
 
@@ -52,7 +53,7 @@ module _ {len : ℕ} {m n : Memory} (a : SameCounted len m n) where
   unfolding spareBit
   spare-agree = any-agree (bit (m .map)) (bit (n .map)) (64 * countedOf len - blocksOf len) (blocksOf len) (λ b l g. bit-agree b (omega arith))
 
-  call-agree : callFault len (m .image) (m .map) ≡ callFault len (n .image) (n .map)
+  pub call-agree : callFault len (m .image) (m .map) ≡ callFault len (n .image) (n .map)
   unfolding callFault openFault
   call-agree = rw (a .imageLength, a .mapLength, spare-agree)
 

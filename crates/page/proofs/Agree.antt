@@ -1,7 +1,7 @@
 -- The agreement law of pages: two pages of one length that agree on the bytes that count are read alike.
 use mathlib.Core.Path.{_≡_, refl}
 use mathlib.Core.Bool.{true, false, _&&_, _||_, or-true, false≢true}
-use mathlib.Core.List.{List}
+use mathlib.Core.List.{List, [], _∷_}
 use Prim.Native.Nat.{ℕ, zero, suc, _+_, _-_, _<_, _≤_}
 use native.Mathlib.Omega.{arith}
 use lib.ListN.{length, take, drop, length-drop}
@@ -11,16 +11,16 @@ use Rattle.field.specs.Number.{byteAt, le16, le32}
 use Rattle.field.specs.Size.{heapStart}
 use Rattle.field.specs.Agree.{Agree, within}
 use Rattle.row.specs.declared.Table.{Table}
-use Rattle.row.specs.Check.{checkRow}
 use Rattle.row.specs.Bytes.{rowByte}
 use Rattle.page.specs.Header.{headerAgrees, rowless, entries}
 use Rattle.page.specs.Index.{indexSize, flagsAt, offsetAt, present, rowStart, presentFrom}
 use Rattle.page.specs.Read.{indexFits, beforeIndex, rowStarts, checkRows, readRows, readPage}
 use Rattle.page.specs.Bytes.{headerByte, rowByteAt, entryByte, entriesByte, pageByte}
 use Rattle.field.proofs.Any.{any-at}
-use Rattle.field.proofs.Choice.{on, cond-agree, or-left, or-right}
+use Rattle.field.proofs.Choice.{on, cond-holds, cond-agree, or-left, or-right}
 use Rattle.field.proofs.Agree.{agree-less, agree-inside, take-agree, drop-agree, byte-agree, le16-agree, le32-agree}
 use Rattle.row.proofs.Agree.{check-agree}
+use Rattle.page.proofs.Laws.{Each}
 
 -- the header's fields, in file order
 module _ {s t : List ℕ} (a : Agree headerByte s t) where
@@ -75,6 +75,10 @@ row-byte table rows start i e = on (ltb i (length (drop start rows))) here (λ f
         let back : start + i - start ≡ i = omega arith in
         rw (le-leb start (start + i) (omega arith), lt-ltb (start + i) (length rows) inside, back) (rw f at e)
 
+-- the parts of a row, from its start to the row index, agree on its bytes
+abbrev pub RowAgree : Table → List ℕ → List ℕ → ℕ → Type 0
+RowAgree table rows other start = Agree (rowByte table (drop start rows)) (drop start rows) (drop start other)
+
 -- one entry: its flag, its row's start and its row
 module _ (table : Table) {s t : List ℕ} (j : ℕ) (a : Agree (entryByte table s j) s t) where
   flags-at : flagsAt s j ≡ flagsAt t j
@@ -94,8 +98,8 @@ module _ (table : Table) {s t : List ℕ} (j : ℕ) (a : Agree (entryByte table 
     unfolding rowStart offsetAt
     start-agree = rw (le16-agree (offsetAt s j) (agree-less (λ i e. present-byte i (or-left _ e)) a), flags-at)
 
-    row-agree : (limit : ℕ) → beforeIndex s ≡ take limit s → checkRow table (drop (rowStart s j) (take limit s)) ≡ checkRow table (drop (rowStart s j) (take limit t))
-    row-agree limit before = check-agree table (agree-inside (agree-less byte (drop-agree (rowStart s j) (take-agree limit a))))
+    row-agree : (limit : ℕ) → beforeIndex s ≡ take limit s → RowAgree table (take limit s) (take limit t) (rowStart s j)
+    row-agree limit before = agree-inside (agree-less byte (drop-agree (rowStart s j) (take-agree limit a)))
       where
         byte : (i : ℕ) → (ltb i (length (drop (rowStart s j) (take limit s))) && rowByte table (drop (rowStart s j) (take limit s)) i) ≡ true → entryByte table s j (rowStart s j + i) ≡ true
         byte i e = present-byte (rowStart s j + i) (or-right (within (offsetAt s j) 2 (rowStart s j + i)) (rw before (row-byte table (take limit s) (rowStart s j) i e)))
@@ -114,12 +118,17 @@ module _ (table : Table) {s t : List ℕ} (n : ℕ) (each : (j : ℕ) → j < n 
       let e = each j (omega arith) in
       rw (← present-agree table j e, rest) (cond-agree (present s j) (λ p. rw (start-agree table j e p)) (λ p. refl))
 
-  rows-agree : (limit : ℕ) → beforeIndex s ≡ take limit s → (k j : ℕ) → j + k ≤ n → checkRows table (take limit s) (presentFrom s k j) ≡ checkRows table (take limit t) (presentFrom s k j)
-  unfolding presentFrom checkRows
-  rows-agree limit before zero j h = refl
+  rows-agree : (limit : ℕ) → beforeIndex s ≡ take limit s → (k j : ℕ) → j + k ≤ n → Each (RowAgree table (take limit s) (take limit t)) (presentFrom s k j)
+  unfolding presentFrom
+  rows-agree limit before zero j h = tt
   rows-agree limit before (suc k) j h =
       let rest = rows-agree limit before k (j + 1) (omega arith) in
-      on (present s j) (λ p. rw (p, row-agree table j (each j (omega arith)) p limit before, rest)) (λ p. rw (p, rest))
+      cond-holds (Each (RowAgree table (take limit s) (take limit t))) (present s j) (λ p. (row-agree table j (each j (omega arith)) p limit before, rest)) (λ _. rest)
+
+rows-check : (table : Table) (rows other starts : List ℕ) → Each (RowAgree table rows other) starts → checkRows table rows starts ≡ checkRows table other starts
+unfolding checkRows
+rows-check table rows other [] e = refl
+rows-check table rows other (start ∷ starts) e = rw (check-agree table (e .0), rows-check table rows other starts (e .1))
 
 -- a page whose header agrees
 module _ (number : ℕ) (table : Table) {s t : List ℕ} (a : Agree (pageByte number table s) s t) where
@@ -142,11 +151,16 @@ module _ (number : ℕ) (table : Table) {s t : List ℕ} (a : Agree (pageByte nu
       (cond-agree (rowless s) (λ _. refl)
       (λ r. cond-agree (indexFits s) (λ f. starts-agree table (entries s) (index-bytes h r f) (entries s) 0 (omega arith)) (λ _. refl)))
 
+  pub parts-same : headerAgrees number table s ≡ true → Each (RowAgree table (beforeIndex s) (beforeIndex t)) (rowStarts s)
+  unfolding rowStarts
+  parts-same h =
+      let All = Each (RowAgree table (beforeIndex s) (beforeIndex t)) in
+      cond-holds All (rowless s) (λ _. tt)
+      (λ r. cond-holds All (indexFits s)
+      (λ f. rw (before s, before-agree) (rows-agree table (entries s) (index-bytes h r f) (length s - indexSize (entries s)) (before s) (entries s) 0 (omega arith))) (λ _. tt))
+
   checks-same : headerAgrees number table s ≡ true → checkRows table (beforeIndex s) (rowStarts s) ≡ checkRows table (beforeIndex t) (rowStarts s)
-  unfolding checkRows rowStarts
-  checks-same h =
-      on (rowless s) (λ r. rw r)
-      (λ r. on (indexFits s) (λ f. rw (r, f, before s, before-agree) (rows-agree table (entries s) (index-bytes h r f) (length s - indexSize (entries s)) (before s) (entries s) 0 (omega arith))) (λ f. rw (r, f)))
+  checks-same h = rows-check table (beforeIndex s) (beforeIndex t) (rowStarts s) (parts-same h)
 
   rows-same : headerAgrees number table s ≡ true → readRows number table s ≡ readRows number table t
   unfolding readRows

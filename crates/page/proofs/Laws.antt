@@ -1,31 +1,38 @@
--- What the chain needs of a page: its refusals are 12 to 15 and carry the page, its rows are at most as many as its entries, and each place lies inside it.
-use mathlib.Core.Path.{_≡_, refl, ap, subst}
-use mathlib.Core.Bool.{_||_}
+-- What the chain and the questions need of a page.
+--     few-rows, before-short     its rows are at most as many as its entries; its rows' part is no longer than the page
+--     page-read                  read without a fault, its header agrees, its rows are good, and what is found are their places
+--     page-refused               its refusals are 12 to 15 and carry the page
+use mathlib.Core.Path.{_≡_, refl, subst}
+use mathlib.Core.Bool.{true, _||_}
 use mathlib.Core.List.{List, [], _∷_}
-use Prim.Native.Nat.{ℕ, zero, suc, _+_, _-_, _*_, _<_, _≤_}
+use Prim.Native.Nat.{ℕ, zero, suc, _+_, _-_, _*_, _≤_}
 use native.Mathlib.Omega.{arith}
-use lib.ListN.{length, drop, length-drop, length-take, length-map}
+use lib.ListN.{length, length-take}
 use lib.Dec.{ltb}
 use Rattle.field.specs.Size.{heapStart}
-use Rattle.field.specs.Fault.{Answer, given, refused}
+use Rattle.field.specs.Fault.{Fault, Answer, given, refused}
 use Rattle.row.specs.declared.Table.{Table}
 use Rattle.row.specs.declared.Check.{Check}
 use Rattle.row.specs.declared.Check.the-variants.{Good, RowFault, TextFault}
-use Rattle.row.specs.Check.{checkRow, checkNumber}
 use Rattle.page.specs.Header.{headerAgrees, rowless, entries}
 use Rattle.page.specs.Index.{indexSize, present, presentFrom}
-use Rattle.page.specs.Read.{indexFits, beforeIndex, rowStarts, unlessBad, checkRows, unlessRefused, places, readRows, readPage}
+use Rattle.page.specs.Read.{indexFits, beforeIndex, rowStarts, checkRows, unlessRefused, places, readRows, readPage}
 use Rattle.field.proofs.Choice.{cond-holds}
-use Rattle.row.proofs.Laws.{good-some}
 
 -- P holds of each member
 abbrev pub Each : (ℕ → Type 0) → List ℕ → Type 0
 Each P [] = Unit {0}
 Each P (x ∷ xs) = P x × Each P xs
 
-abbrev pub PageAnswer : ℕ → List ℕ → Answer (List ℕ) → Type 0
-PageAnswer number page (given rows) = (length rows ≤ entries page) × Each (λ (row : ℕ). (number * length page ≤ row) × (row < number * length page + length page)) rows
-PageAnswer number page (refused f) = (12 ≤ f .number) × (f .number ≤ 15) × (f .carries ≡ number)
+-- what is known of a page that is read without a fault
+pub record GoodPage (number : ℕ) (table : Table) (page rows : List ℕ) : Type 0 where
+  pub header : headerAgrees number table page ≡ true
+  pub good : checkRows table (beforeIndex page) (rowStarts page) ≡ Good
+  pub found : rows ≡ places (number * length page) (rowStarts page)
+
+abbrev PageAnswer : ℕ → Table → List ℕ → Answer (List ℕ) → Type 0
+PageAnswer number table page (given rows) = GoodPage number table page rows
+PageAnswer number table page (refused f) = (12 ≤ f .number) × (f .number ≤ 15) × (f .carries ≡ number)
 
 from-few : (page : List ℕ) (k i : ℕ) → length (presentFrom page k i) ≤ k
 unfolding presentFrom
@@ -44,56 +51,23 @@ pub before-short : (page : List ℕ) → length (beforeIndex page) ≤ length pa
 unfolding beforeIndex
 before-short page = omega (arith, length-take (length page - indexSize (entries page)) page)
 
-not-good : (c : Check) → c ≡ Good → 0 < checkNumber c → ⊥
-not-good c e h = let z = ap checkNumber e in omega arith
+unless-answer : (number : ℕ) (table : Table) (page : List ℕ) (check : Check) → headerAgrees number table page ≡ true → checkRows table (beforeIndex page) (rowStarts page) ≡ check
+    → PageAnswer number table page (unlessRefused number check (places (number * length page) (rowStarts page)))
+unless-answer number table page Good h e = record { header = h; good = e; found = refl }
+unless-answer number table page RowFault h e = (omega arith, omega arith, refl)
+unless-answer number table page TextFault h e = (omega arith, omega arith, refl)
 
--- rows that are good lie inside the part before the index
-inside : (table : Table) (rows : List ℕ) (start size : ℕ) (starts : List ℕ) → length rows ≤ size → checkRows table rows starts ≡ Good → Each (λ (row : ℕ). (start ≤ row) × (row < start + size)) (places start starts)
-unfolding checkRows
-inside table rows start size [] h e = tt
-inside table rows start size (s ∷ starts) h e = go (checkRow table (drop s rows)) refl (λ r. inside table rows start size starts h r) e
-  where
-    Rest : Type 0
-    Rest = Each (λ (row : ℕ). (start ≤ row) × (row < start + size)) (places start starts)
-
-    go : (c : Check) → checkRow table (drop s rows) ≡ c → (checkRows table rows starts ≡ Good → Rest) → unlessBad c (checkRows table rows starts) ≡ Good → ((start ≤ start + s) × (start + s < start + size)) × Rest
-    go Good q rest r = let z = good-some table (drop s rows) q in (omega (arith, length-drop s rows), rest r)
-    go RowFault q rest r = absurd (not-good RowFault r (omega arith))
-    go TextFault q rest r = absurd (not-good TextFault r (omega arith))
-
-unless-answer : (number : ℕ) (table : Table) (page : List ℕ) (check : Check) → checkRows table (beforeIndex page) (rowStarts page) ≡ check → PageAnswer number page (unlessRefused number check (places (number * length page) (rowStarts page)))
-unless-answer number table page Good e = (
-  omega (arith, length-map (rowStarts page) (λ (row : ℕ). number * length page + row), few-rows page),
-  inside table (beforeIndex page) (number * length page) (length page) (rowStarts page) (before-short page) e,
-)
-unless-answer number table page RowFault e = (omega arith, omega arith, refl)
-unless-answer number table page TextFault e = (omega arith, omega arith, refl)
-
-pub page-answer : (number : ℕ) (table : Table) (page : List ℕ) → PageAnswer number page (readPage number table page)
+page-answer : (number : ℕ) (table : Table) (page : List ℕ) → PageAnswer number table page (readPage number table page)
 unfolding readPage readRows
 page-answer number table page =
-    cond-holds (PageAnswer number page) (ltb (length page) heapStart) (λ _. (omega arith, omega arith, refl))
-    (λ _. cond-holds (PageAnswer number page) (headerAgrees number table page)
-    (λ _. cond-holds (PageAnswer number page) (rowless page || indexFits page) (λ _. unless-answer number table page (checkRows table (beforeIndex page) (rowStarts page)) refl) (λ _. (omega arith, omega arith, refl)))
+    let Answered = PageAnswer number table page in
+    cond-holds Answered (ltb (length page) heapStart) (λ _. (omega arith, omega arith, refl))
+    (λ _. cond-holds Answered (headerAgrees number table page)
+    (λ h. cond-holds Answered (rowless page || indexFits page) (λ _. unless-answer number table page (checkRows table (beforeIndex page) (rowStarts page)) h refl) (λ _. (omega arith, omega arith, refl)))
     (λ _. (omega arith, omega arith, refl)))
 
--- what a page that is not refused holds are the places of its present rows
-abbrev PlacesOf : ℕ → List ℕ → Answer (List ℕ) → Type 0
-PlacesOf number page (given rows) = rows ≡ places (number * length page) (rowStarts page)
-PlacesOf number page (refused f) = Unit {0}
+pub page-read : (number : ℕ) (table : Table) (page rows : List ℕ) → readPage number table page ≡ given rows → GoodPage number table page rows
+page-read number table page rows e = subst (PageAnswer number table page) e (page-answer number table page)
 
-unless-places : (number : ℕ) (page : List ℕ) (check : Check) → PlacesOf number page (unlessRefused number check (places (number * length page) (rowStarts page)))
-unless-places number page Good = refl
-unless-places number page RowFault = tt
-unless-places number page TextFault = tt
-
-all-places : (number : ℕ) (table : Table) (page : List ℕ) → PlacesOf number page (readPage number table page)
-unfolding readPage readRows
-all-places number table page =
-    cond-holds (PlacesOf number page) (ltb (length page) heapStart) (λ _. tt)
-    (λ _. cond-holds (PlacesOf number page) (headerAgrees number table page)
-    (λ _. cond-holds (PlacesOf number page) (rowless page || indexFits page) (λ _. unless-places number page (checkRows table (beforeIndex page) (rowStarts page))) (λ _. tt))
-    (λ _. tt))
-
-pub page-rows : (number : ℕ) (table : Table) (page rows : List ℕ) → readPage number table page ≡ given rows → rows ≡ places (number * length page) (rowStarts page)
-page-rows number table page rows e = subst (PlacesOf number page) e (all-places number table page)
+pub page-refused : (number : ℕ) (table : Table) (page : List ℕ) (f : Fault) → readPage number table page ≡ refused f → (12 ≤ f .number) × (f .number ≤ 15) × (f .carries ≡ number)
+page-refused number table page f e = subst (PageAnswer number table page) e (page-answer number table page)

@@ -20,7 +20,7 @@ use Rattle.run.proofs.Received.{holds-sized, same-received, same-whole,
 use Rattle.run.proofs.Kept.{keeps}
 
 -- each question, where the same blocks are held
-answer-same : {len : ℕ} {a b : Memory} → callFault len (a .image) (a .map) ≡ none → callFault len (b .image) (b .map) ≡ none → SameBlocks len a b → (q : Question) → answer len a q ≡ answer len b q
+pub answer-same : {len : ℕ} {a b : Memory} → callFault len (a .image) (a .map) ≡ none → callFault len (b .image) (b .map) ≡ none → SameBlocks len a b → (q : Question) → answer len a q ≡ answer len b q
 answer-same soundA soundB same (allRows table list) = ap rows (ask-rows-same soundA soundB same table list)
 answer-same soundA soundB same (rowRecord table k) = ap row (ask-record-same soundA soundB same table k)
 answer-same soundA soundB same (rowText table k slot) = ap text (ask-text-same soundA soundB same table k slot)

@@ -1,0 +1,4 @@
+pub mod Bytes
+pub mod Unread
+pub mod Depend
+pub mod Examples
