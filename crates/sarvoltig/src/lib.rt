@@ -209,8 +209,8 @@ fn reply_text(answer: TextReply, result: &mut [u64]) -> u32
 #[no_mangle]
 pub extern "C" fn sarvoltig_open(len: u64, image: &[u8], map: &mut [u64], result: &mut [u64]) -> u32
     ensures { λ r. ⌜ r ≡ openCode (opening len (now (image .entry)) (now (map .entry)) .answer) ⌝ }
-    ensures { λ _. ⌜ now (map .exit) ≡ opening len (now (image .entry)) (now (map .entry)) .map ⌝ }
     ensures { λ _. ⌜ now (result .exit) ≡ written (now (result .entry)) (openValues (opening len (now (image .entry)) (now (map .entry)) .answer)) ⌝ }
+    ensures { λ _. ⌜ now (map .exit) ≡ opening len (now (image .entry)) (now (map .entry)) .map ⌝ }
 {
     reply_opened(intake::open(len, image, map), result)
 }
@@ -226,8 +226,8 @@ pub extern "C" fn sarvoltig_deliver(
     result: &mut [u64],
 ) -> u32
     ensures { λ r. ⌜ r ≡ deliverCode (delivery len (memory (now (image .entry)) (now (map .entry))) block (now (piece .entry)) .answer) ⌝ }
-    ensures { λ _. ⌜ memory (now (image .exit)) (now (map .exit)) ≡ delivery len (memory (now (image .entry)) (now (map .entry))) block (now (piece .entry)) .memory ⌝ }
     ensures { λ _. ⌜ now (result .exit) ≡ written (now (result .entry)) (deliverValues (delivery len (memory (now (image .entry)) (now (map .entry))) block (now (piece .entry)) .answer)) ⌝ }
+    ensures { λ _. ⌜ memory (now (image .exit)) (now (map .exit)) ≡ delivery len (memory (now (image .entry)) (now (map .entry))) block (now (piece .entry)) .memory ⌝ }
 {
     reply_delivered(
         intake::deliver(Intake::new(len), image, map, block, piece),
@@ -246,8 +246,8 @@ pub extern "C" fn sarvoltig_rows(
     result: &mut [u64],
 ) -> u32
     ensures { λ r. ⌜ r ≡ walkCode (askRows len (memory (now (image .entry)) (now (map .entry))) table (now (list .entry)) .answer) ⌝ }
-    ensures { λ _. ⌜ now (list .exit) ≡ askRows len (memory (now (image .entry)) (now (map .entry))) table (now (list .entry)) .list ⌝ }
     ensures { λ _. ⌜ now (result .exit) ≡ written (now (result .entry)) (walkValues (askRows len (memory (now (image .entry)) (now (map .entry))) table (now (list .entry)) .answer)) ⌝ }
+    ensures { λ _. ⌜ now (list .exit) ≡ askRows len (memory (now (image .entry)) (now (map .entry))) table (now (list .entry)) .list ⌝ }
 {
     reply_walked(
         export::rows(Intake::new(len), image, map, table, list),

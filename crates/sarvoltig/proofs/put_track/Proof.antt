@@ -80,7 +80,7 @@ same-length : tie.Need-same-length
 same-length c = search needs
 
 returns : tie.Need-returns
-returns c = search needs
+returns c = c .before .before .put .ensures
 
 pub put-track-spec : {M : Type 1} → statement M
 put-track-spec =

@@ -1,6 +1,9 @@
 -- `sarvoltig_deliver` meets its contract: `intake::deliver` gives the delivery, and `reply_delivered` its code and values.
-use mathlib.Core.Path.{refl}
+use mathlib.Core.Path.{ap}
 use borrow.Author.Needs.{needs}
+use Rattle.intake.specs.Deliver.{Outcome}
+use Rattle.sarvoltig.specs.Deliver.{deliverCode, deliverValues}
+use Rattle.sarvoltig.proofs.Replied.{replied}
 use Rattle.sarvoltig.proofs.sarvoltig_deliver.Statement.{statement}
 use Rattle.sarvoltig.proofs.sarvoltig_deliver.Tie as tie
 
@@ -24,9 +27,10 @@ same-length-3 c = search needs
 
 returns : tie.Need-returns
 returns c =
-    let told = c .before .before .reply-delivered .ensures in
     let asked = c .before .before .before .before .before .before .before .before in
-    rw (← asked .before .before .before .new .ensures, ← asked .deliver .ensures) (told .0, (refl, told .1))
+    let e = asked .deliver .ensures in
+    let told = replied (λ (o : Outcome). deliverCode (o .answer)) (λ (o : Outcome). deliverValues (o .answer)) _ e (c .before .before .reply-delivered .ensures) in
+    rw (← asked .before .before .before .new .ensures) (told .0, (told .1, ap (λ (o : Outcome). o .memory) e))
 
 pub sarvoltig-deliver-spec : {M : Type 1} → statement M
 sarvoltig-deliver-spec =

@@ -1,5 +1,8 @@
 -- `sarvoltig_record` meets its contract: `export::record` gives the answer, and `reply_record` its code and values.
 use borrow.Author.Needs.{needs}
+use Rattle.sarvoltig.specs.Row.{rowCode, rowValues}
+use Rattle.sarvoltig.specs.Record.{recordNumbers}
+use Rattle.sarvoltig.proofs.Replied.{replied}
 use Rattle.sarvoltig.proofs.sarvoltig_record.Statement.{statement}
 use Rattle.sarvoltig.proofs.sarvoltig_record.Tie as tie
 
@@ -18,7 +21,7 @@ same-length c = search needs
 returns : tie.Need-returns
 returns c =
     let asked = c .before .before .before .before in
-    rw (← asked .before .new .ensures, ← asked .«record» .ensures) (c .before .before .reply-record .ensures)
+    rw (← asked .before .new .ensures) (replied rowCode (rowValues recordNumbers) _ (asked .«record» .ensures) (c .before .before .reply-record .ensures))
 
 pub sarvoltig-record-spec : {M : Type 1} → statement M
 sarvoltig-record-spec =

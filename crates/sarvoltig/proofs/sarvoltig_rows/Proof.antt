@@ -1,6 +1,9 @@
 -- `sarvoltig_rows` meets its contract: `export::rows` gives the answer and the list, and `reply_walked` the code and the values.
-use mathlib.Core.Path.{refl}
+use mathlib.Core.Path.{ap}
 use borrow.Author.Needs.{needs}
+use Rattle.export.specs.Rows.{RowsOutcome}
+use Rattle.sarvoltig.specs.Rows.{walkCode, walkValues}
+use Rattle.sarvoltig.proofs.Replied.{replied}
 use Rattle.sarvoltig.proofs.sarvoltig_rows.Statement.{statement}
 use Rattle.sarvoltig.proofs.sarvoltig_rows.Tie as tie
 
@@ -21,9 +24,10 @@ same-length-2 c = search needs
 
 returns : tie.Need-returns
 returns c =
-    let told = c .before .before .reply-walked .ensures in
     let asked = c .before .before .before .before .before .before in
-    rw (← asked .before .before .new .ensures, ← asked .rows .ensures) (told .0, (refl, told .1))
+    let e = asked .rows .ensures in
+    let told = replied (λ (o : RowsOutcome). walkCode (o .answer)) (λ (o : RowsOutcome). walkValues (o .answer)) _ e (c .before .before .reply-walked .ensures) in
+    rw (← asked .before .before .new .ensures) (told .0, (told .1, ap (λ (o : RowsOutcome). o .list) e))
 
 pub sarvoltig-rows-spec : {M : Type 1} → statement M
 sarvoltig-rows-spec =
