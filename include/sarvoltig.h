@@ -12,7 +12,8 @@
  *     64          SARVOLTIG_SAME (deliveries)                 those of the function
  *     65          SARVOLTIG_WAITING (questions)               rows found, pages walked, page that is waited for
  *
- * A refusal changes no memory but the result.
+ * A refusal changes no memory but the result. A question walks the table's pages from the first, so its time grows with the
+ * table.
  *
  * A slice is a pointer and the number of elements that it points to. What the caller has to keep:
  *   - a pointer is aligned for its type and not NULL, also where the number is 0;

@@ -52,12 +52,14 @@ fn put(code: u32, values: &[u64], result: &mut [u64]) -> u32
     code
 }
 
+// The reply to a refusal: its number, and what it carries.
 fn refuse(refusal: Refusal, result: &mut [u64]) -> u32
     ensures { λ r. ⌜ (r ≡ numberOf refusal) × (now (result .exit) ≡ written (now (result .entry)) (faultValues (faultOf refusal))) ⌝ }
 {
     put(refusal.number(), &[refusal.carries() as u64], result)
 }
 
+// The reply of a question that waits for a page.
 fn wait(page: u32, rows: usize, pages: u64, result: &mut [u64]) -> u32
     ensures { λ r. ⌜ (r ≡ waiting) × (now (result .exit) ≡ written (now (result .entry)) (waitValues page rows pages)) ⌝ }
 {
@@ -93,6 +95,7 @@ fn reply_walked(answer: Walked, result: &mut [u64]) -> u32
     }
 }
 
+// The reply with a track's numbers, in the order of their offsets.
 fn put_track(track: Track, result: &mut [u64]) -> u32
     ensures { λ r. ⌜ (r ≡ done) × (now (result .exit) ≡ written (now (result .entry)) (trackNumbers track)) ⌝ }
 {
@@ -215,7 +218,7 @@ pub extern "C" fn sarvoltig_open(len: u64, image: &[u8], map: &mut [u64], result
     reply_opened(intake::open(len, image, map), result)
 }
 
-// Delivers a block.
+// Delivers a block to an intake of a file of len bytes.
 #[no_mangle]
 pub extern "C" fn sarvoltig_deliver(
     len: u64,
