@@ -8,7 +8,10 @@ use Rattle.row.specs.declared.Record.the-variants as kind
 -- the numbers of a track, in the order of their offsets
 abbrev pub trackNumbers : Track → List ℕ
 trackNumbers t =
-    t .«sample_rate» ∷ t .«composer_id» ∷ t .«file_size» ∷ t .«artwork_id» ∷ t .«key_id» ∷ t .«original_artist_id» ∷ t .«label_id» ∷ t .«remixer_id» ∷ t .bitrate ∷ t .«track_number» ∷ t .tempo ∷ t .«genre_id» ∷ t .«album_id» ∷ t .«artist_id» ∷ t .id ∷ t .«disc_number» ∷ t .«play_count» ∷ t .year ∷ t .«sample_depth» ∷ t .duration ∷ t .«color_id» ∷ t .rating ∷ []
+    t .«sample_rate» ∷ t .«composer_id» ∷ t .«file_size» ∷ t .«artwork_id»
+    ∷ t .«key_id» ∷ t .«original_artist_id» ∷ t .«label_id» ∷ t .«remixer_id» ∷ t .bitrate ∷ t .«track_number» ∷ t .tempo ∷ t .«genre_id» ∷ t .«album_id» ∷ t .«artist_id» ∷ t .id
+    ∷ t .«disc_number» ∷ t .«play_count» ∷ t .year ∷ t .«sample_depth» ∷ t .duration
+    ∷ t .«color_id» ∷ t .rating ∷ []
 
 abbrev pub recordNumbers : Record → List ℕ
 recordNumbers (kind.Track t) = trackNumbers t
