@@ -1,0 +1,459 @@
+/*
+ * Prints the playlists of a rekordbox export as a tree, with the titles of their tracks.
+ *
+ *     playlists EXPORT
+ *
+ * The file is taken in block by block, in a shuffled order, as it may come over a network. What the library refuses ends
+ * the program with a message and status 1.
+ */
+#include <errno.h>
+#include <inttypes.h>
+#include <stdarg.h>
+#include <stdint.h>
+#include <stdio.h>
+#include <stdlib.h>
+#include <string.h>
+
+#include "sarvoltig.h"
+
+enum { DEEPEST = 64 };
+
+/* An opened intake: the file's length, and the memory that every call takes with it. */
+typedef struct {
+    uint64_t len;
+    uint8_t *image;
+    uint64_t *map;
+    size_t map_len;
+} Intake;
+
+/* A row of the playlist tree: record k of its table. */
+typedef struct {
+    uint64_t k;
+    uint64_t parent;
+    uint64_t order;
+    uint64_t id;
+    int is_folder;
+    int is_printed;
+} Node;
+
+typedef struct {
+    uint64_t playlist;
+    uint64_t index;
+    uint64_t track;
+} Entry;
+
+/* A track: record k of its table. */
+typedef struct {
+    uint64_t k;
+    uint64_t id;
+} Track;
+
+typedef struct {
+    Node *nodes;
+    size_t node_count;
+    Entry *entries;
+    size_t entry_count;
+    Track *tracks;
+    size_t track_count;
+} Library;
+
+static const char *const reasons[] = {
+    "",
+    "the file's length is not a multiple of 512 from 512 to 268435456",
+    "the image is shorter than the file",
+    "the map is too short",
+    "the map has a bit behind the last block",
+    "there is no such block",
+    "the piece is not 512 bytes",
+    "the block is held with other bytes",
+    "there is no such table type",
+    "the file header is broken",
+    "the file has no such table",
+    "a link names no page; it stands on page",
+    "the header disagrees, of page",
+    "the row index does not fit, of page",
+    "a row does not fit, on page",
+    "a string is malformed or outside, on page",
+    "the table's pages come back to one before the last",
+    "the list is too short for the rows found:",
+    "there is no such record",
+    "there is no such string slot",
+};
+
+static void fail(const char *format, ...)
+{
+    va_list args;
+
+    fflush(stdout);
+    fputs("playlists: ", stderr);
+    va_start(args, format);
+    vfprintf(stderr, format, args);
+    va_end(args);
+    fputc('\n', stderr);
+    exit(EXIT_FAILURE);
+}
+
+/* Ends the program over an answer that is no answer to what was asked. */
+static void refuse(const char *asked, uint32_t code, const uint64_t *result)
+{
+    if (code == SARVOLTIG_WAITING) {
+        fail("%s: page %" PRIu64 " is not there", asked, result[SARVOLTIG_PAGE]);
+    }
+    if (code >= sizeof reasons / sizeof reasons[0]) {
+        fail("%s: refused %" PRIu32, asked, code);
+    }
+    if (code == SARVOLTIG_LIST_SHORT || (code >= SARVOLTIG_PAGE_LINK && code <= SARVOLTIG_TEXT_FAULT)) {
+        fail("%s: refused %" PRIu32 ", %s %" PRIu64, asked, code, reasons[code], result[0]);
+    }
+    fail("%s: refused %" PRIu32 ", %s", asked, code, reasons[code]);
+}
+
+/* Memory for so many elements, at least one, so that it is not NULL. */
+static void *reserve(size_t count, size_t size)
+{
+    void *memory = calloc(count > 0 ? count : 1, size);
+
+    if (memory == NULL) {
+        fail("no memory");
+    }
+    return memory;
+}
+
+/* The length of a file, read to its end or past the longest that an export may have. */
+static uint64_t length_of(FILE *file, const char *path)
+{
+    uint8_t piece[SARVOLTIG_BLOCK];
+    uint64_t len = 0;
+    size_t got;
+
+    do {
+        got = fread(piece, 1, sizeof piece, file);
+        len += got;
+    } while (got == sizeof piece && len <= SARVOLTIG_LONGEST);
+    if (ferror(file)) {
+        fail("%s: %s", path, strerror(errno));
+    }
+    return len;
+}
+
+/* The numbers from 0 to count - 1 in a shuffled order, the same in each run. */
+static uint32_t *shuffled(size_t count)
+{
+    uint32_t *order = (uint32_t *)reserve(count, sizeof *order);
+    uint64_t state = 88172645463325252u;
+    size_t i;
+
+    for (i = 0; i < count; i++) {
+        order[i] = (uint32_t)i;
+    }
+    for (i = count; i > 1; i--) {
+        size_t other;
+        uint32_t last = order[i - 1];
+
+        state ^= state << 13;
+        state ^= state >> 7;
+        state ^= state << 17;
+        other = (size_t)(state % i);
+        order[i - 1] = order[other];
+        order[other] = last;
+    }
+    return order;
+}
+
+/* Takes in a file: opens an intake for its length, and delivers its blocks. */
+static Intake take_in(FILE *file, const char *path)
+{
+    uint64_t result[SARVOLTIG_RESULT];
+    uint8_t piece[SARVOLTIG_BLOCK];
+    Intake intake;
+    uint32_t *order;
+    uint32_t code;
+    size_t blocks;
+    size_t i;
+
+    intake.len = length_of(file, path);
+    intake.image = (uint8_t *)reserve((size_t)intake.len, 1);
+    intake.map_len = (size_t)SARVOLTIG_MAP_WORDS(intake.len);
+    intake.map = (uint64_t *)reserve(intake.map_len, sizeof *intake.map);
+    code = sarvoltig_open(intake.len, intake.image, (size_t)intake.len, intake.map, intake.map_len, result, SARVOLTIG_RESULT);
+    if (code != SARVOLTIG_DONE) {
+        refuse(path, code, result);
+    }
+    blocks = (size_t)result[0];
+    order = shuffled(blocks);
+    for (i = 0; i < blocks; i++) {
+        if (fseek(file, (long)order[i] * SARVOLTIG_BLOCK, SEEK_SET) != 0 || fread(piece, sizeof piece, 1, file) != 1) {
+            fail("%s: block %" PRIu32 " cannot be read", path, order[i]);
+        }
+        code = sarvoltig_deliver(intake.len, intake.image, (size_t)intake.len, intake.map, intake.map_len, order[i], piece,
+                                 sizeof piece, result, SARVOLTIG_RESULT);
+        if (code != SARVOLTIG_DONE) {
+            refuse(path, code, result);
+        }
+    }
+    free(order);
+    return intake;
+}
+
+/* How many rows a table has. A list of no length is refused with the rows found, unless there are none. */
+static size_t count_rows(const Intake *intake, uint32_t table, const char *name)
+{
+    uint64_t result[SARVOLTIG_RESULT];
+    uint32_t list[1];
+    uint32_t code = sarvoltig_rows(intake->len, intake->image, (size_t)intake->len, intake->map, intake->map_len, table, list, 0,
+                                   result, SARVOLTIG_RESULT);
+
+    if (code != SARVOLTIG_DONE && code != SARVOLTIG_LIST_SHORT) {
+        refuse(name, code, result);
+    }
+    return (size_t)result[0];
+}
+
+/* The numbers of record k of a table. */
+static void read_record(const Intake *intake, uint32_t table, const char *name, uint64_t k, uint64_t *result)
+{
+    uint32_t code = sarvoltig_record(intake->len, intake->image, (size_t)intake->len, intake->map, intake->map_len, table, k,
+                                     result, SARVOLTIG_RESULT);
+
+    if (code != SARVOLTIG_DONE) {
+        refuse(name, code, result);
+    }
+}
+
+static int compare(uint64_t a, uint64_t b)
+{
+    return (a > b) - (a < b);
+}
+
+static int compare_nodes(const void *a, const void *b)
+{
+    const Node *x = (const Node *)a;
+    const Node *y = (const Node *)b;
+
+    if (x->parent != y->parent) {
+        return compare(x->parent, y->parent);
+    }
+    if (x->order != y->order) {
+        return compare(x->order, y->order);
+    }
+    return compare(x->id, y->id);
+}
+
+static int compare_entries(const void *a, const void *b)
+{
+    const Entry *x = (const Entry *)a;
+    const Entry *y = (const Entry *)b;
+
+    if (x->playlist != y->playlist) {
+        return compare(x->playlist, y->playlist);
+    }
+    return compare(x->index, y->index);
+}
+
+static int compare_tracks(const void *a, const void *b)
+{
+    return compare(((const Track *)a)->id, ((const Track *)b)->id);
+}
+
+/* Reads the three tables: the tree by parent, the entries by playlist, the tracks by id. */
+static Library read_library(const Intake *intake)
+{
+    uint64_t result[SARVOLTIG_RESULT];
+    Library library;
+    size_t k;
+
+    library.node_count = count_rows(intake, SARVOLTIG_PLAYLIST_TREE, "playlist tree");
+    library.nodes = (Node *)reserve(library.node_count, sizeof *library.nodes);
+    for (k = 0; k < library.node_count; k++) {
+        Node *node = &library.nodes[k];
+
+        read_record(intake, SARVOLTIG_PLAYLIST_TREE, "playlist tree", k, result);
+        node->k = k;
+        node->parent = result[SARVOLTIG_NODE_PARENT_ID];
+        node->order = result[SARVOLTIG_NODE_SORT_ORDER];
+        node->id = result[SARVOLTIG_NODE_ID];
+        node->is_folder = result[SARVOLTIG_NODE_RAW_IS_FOLDER] != 0;
+    }
+    qsort(library.nodes, library.node_count, sizeof *library.nodes, compare_nodes);
+
+    library.entry_count = count_rows(intake, SARVOLTIG_PLAYLIST_ENTRIES, "playlist entries");
+    library.entries = (Entry *)reserve(library.entry_count, sizeof *library.entries);
+    for (k = 0; k < library.entry_count; k++) {
+        read_record(intake, SARVOLTIG_PLAYLIST_ENTRIES, "playlist entries", k, result);
+        library.entries[k].playlist = result[SARVOLTIG_ENTRY_PLAYLIST_ID];
+        library.entries[k].index = result[SARVOLTIG_ENTRY_INDEX];
+        library.entries[k].track = result[SARVOLTIG_ENTRY_TRACK_ID];
+    }
+    qsort(library.entries, library.entry_count, sizeof *library.entries, compare_entries);
+
+    library.track_count = count_rows(intake, SARVOLTIG_TRACKS, "tracks");
+    library.tracks = (Track *)reserve(library.track_count, sizeof *library.tracks);
+    for (k = 0; k < library.track_count; k++) {
+        read_record(intake, SARVOLTIG_TRACKS, "tracks", k, result);
+        library.tracks[k].k = k;
+        library.tracks[k].id = result[SARVOLTIG_TRACK_ID];
+    }
+    qsort(library.tracks, library.track_count, sizeof *library.tracks, compare_tracks);
+    return library;
+}
+
+/* Prints a character as UTF-8; what is no character, or would control a terminal, as U+FFFD. */
+static void print_character(uint32_t c)
+{
+    if (c < 0x20 || (c >= 0x7f && c < 0xa0) || (c >= 0xd800 && c < 0xe000)) {
+        c = 0xfffd;
+    }
+    if (c < 0x80) {
+        putchar((int)c);
+    } else if (c < 0x800) {
+        putchar((int)(0xc0 | c >> 6));
+        putchar((int)(0x80 | (c & 0x3f)));
+    } else if (c < 0x10000) {
+        putchar((int)(0xe0 | c >> 12));
+        putchar((int)(0x80 | (c >> 6 & 0x3f)));
+        putchar((int)(0x80 | (c & 0x3f)));
+    } else {
+        putchar((int)(0xf0 | c >> 18));
+        putchar((int)(0x80 | (c >> 12 & 0x3f)));
+        putchar((int)(0x80 | (c >> 6 & 0x3f)));
+        putchar((int)(0x80 | (c & 0x3f)));
+    }
+}
+
+static void print_ascii(const uint8_t *text, size_t length)
+{
+    size_t i;
+
+    for (i = 0; i < length; i++) {
+        print_character(text[i] < 0x80 ? text[i] : 0xfffdu);
+    }
+}
+
+/* A pair of surrogates is one character. */
+static void print_utf16(const uint8_t *text, size_t length)
+{
+    size_t i = 0;
+
+    while (i + 1 < length) {
+        uint32_t c = text[i] | (uint32_t)text[i + 1] << 8;
+
+        i += 2;
+        if (c >= 0xd800 && c < 0xdc00 && i + 1 < length) {
+            uint32_t low = text[i] | (uint32_t)text[i + 1] << 8;
+
+            if (low >= 0xdc00 && low < 0xe000) {
+                c = 0x10000 + ((c - 0xd800) << 10) + (low - 0xdc00);
+                i += 2;
+            }
+        }
+        print_character(c);
+    }
+}
+
+/* Prints a string of record k of a table. */
+static void print_text(const Intake *intake, uint32_t table, const char *name, uint64_t k, uint64_t slot)
+{
+    uint64_t result[SARVOLTIG_RESULT];
+    uint32_t code = sarvoltig_text(intake->len, intake->image, (size_t)intake->len, intake->map, intake->map_len, table, k, slot,
+                                   result, SARVOLTIG_RESULT);
+    const uint8_t *text;
+    size_t length;
+
+    if (code != SARVOLTIG_DONE) {
+        refuse(name, code, result);
+    }
+    text = intake->image + result[SARVOLTIG_TEXT_PLACE];
+    length = (size_t)result[SARVOLTIG_TEXT_LENGTH];
+    if (result[SARVOLTIG_TEXT_ENCODING] == SARVOLTIG_UTF16LE) {
+        print_utf16(text, length);
+    } else {
+        print_ascii(text, length);
+    }
+}
+
+/* Prints the titles of a playlist's tracks, by their entries' indexes. */
+static void print_tracks(const Intake *intake, const Library *library, uint64_t playlist, int level)
+{
+    size_t i;
+
+    for (i = 0; i < library->entry_count; i++) {
+        const Entry *entry = &library->entries[i];
+        const Track *track;
+        Track wanted;
+
+        if (entry->playlist != playlist) {
+            continue;
+        }
+        wanted.k = 0;
+        wanted.id = entry->track;
+        track = (const Track *)bsearch(&wanted, library->tracks, library->track_count, sizeof wanted, compare_tracks);
+        printf("%*s%" PRIu64 ". ", 2 * level, "", entry->index);
+        if (track == NULL) {
+            printf("(no track %" PRIu64 ")", entry->track);
+        } else {
+            print_text(intake, SARVOLTIG_TRACKS, "tracks", track->k, SARVOLTIG_SLOT_TITLE);
+        }
+        putchar('\n');
+    }
+}
+
+/* Prints what stands under a parent, each row once: a folder with its own children, a playlist with its tracks. */
+static void print_children(const Intake *intake, Library *library, uint64_t parent, int level)
+{
+    size_t i;
+
+    if (level > DEEPEST) {
+        fail("playlist tree: folders are nested deeper than %d", DEEPEST);
+    }
+    for (i = 0; i < library->node_count; i++) {
+        Node *node = &library->nodes[i];
+
+        if (node->parent != parent || node->is_printed) {
+            continue;
+        }
+        node->is_printed = 1;
+        printf("%*s", 2 * level, "");
+        print_text(intake, SARVOLTIG_PLAYLIST_TREE, "playlist tree", node->k, 0);
+        puts(node->is_folder ? "/" : "");
+        if (node->is_folder) {
+            print_children(intake, library, node->id, level + 1);
+        } else {
+            print_tracks(intake, library, node->id, level + 1);
+        }
+    }
+}
+
+int main(int argc, char **argv)
+{
+    Intake intake;
+    Library library;
+    FILE *file;
+    size_t i;
+
+    if (argc != 2) {
+        fputs("usage: playlists EXPORT\n", stderr);
+        return 2;
+    }
+    file = fopen(argv[1], "rb");
+    if (file == NULL) {
+        fail("%s: %s", argv[1], strerror(errno));
+    }
+    intake = take_in(file, argv[1]);
+    fclose(file);
+    library = read_library(&intake);
+    print_children(&intake, &library, 0, 0);
+    for (i = 0; i < library.node_count; i++) {
+        if (!library.nodes[i].is_printed) {
+            fail("playlist tree: row %" PRIu64 " has no way to the root", library.nodes[i].k);
+        }
+    }
+    if (fflush(stdout) != 0) {
+        fail("standard output: %s", strerror(errno));
+    }
+    free(library.tracks);
+    free(library.entries);
+    free(library.nodes);
+    free(intake.map);
+    free(intake.image);
+    return 0;
+}

@@ -1,0 +1,237 @@
+/*
+ * Sarvoltig: a proved reader of rekordbox export.pdb files that arrive in blocks of 512 bytes.
+ *
+ * The caller owns all memory: the image (the file's bytes), the map (one bit for each block) and the result (numbers). The
+ * functions keep no state, allocate nothing and call nothing but memcpy and memset. Each answers every input: it returns a
+ * code and writes the answer's values to the front of the result, as many as the result takes; the rest of it stays.
+ * A result of SARVOLTIG_RESULT numbers takes every answer.
+ *
+ *     code        answer                                      values
+ *     0           SARVOLTIG_DONE                              those of the function, below
+ *     1 to 63     refused, by the number of document 01       what the refusal carries, 0 where it carries nothing
+ *     64          SARVOLTIG_SAME (deliveries)                 those of the function
+ *     65          SARVOLTIG_WAITING (questions)               rows found, pages walked, page that is waited for
+ *
+ * A refusal changes no memory but the result. A question walks the table's pages from the first, so its time grows with the
+ * table.
+ *
+ * A slice is a pointer and the number of elements that it points to. What the caller has to keep:
+ *   - a pointer is aligned for its type and not NULL, also where the number is 0;
+ *   - the slices of one call do not overlap, but for two that the call only reads;
+ *   - nothing else writes to the slices during the call.
+ *
+ * The archive libsarvoltig.a is written by `rt staticlib sarvoltig`, for x86-64 (System V calling convention).
+ */
+#ifndef SARVOLTIG_H
+#define SARVOLTIG_H
+
+#include <stddef.h>
+#include <stdint.h>
+
+#ifdef __cplusplus
+extern "C" {
+#endif
+
+/* Sizes. */
+enum {
+    SARVOLTIG_BLOCK = 512,         /* bytes in a block */
+    SARVOLTIG_LONGEST = 268435456, /* bytes in the longest file */
+    SARVOLTIG_RESULT = 22          /* numbers in the longest answer, a track's record */
+};
+
+/* The map's words that count for a file of len bytes. A longer map is allowed; its other words stay. */
+#define SARVOLTIG_MAP_WORDS(len) (((len) / SARVOLTIG_BLOCK + 63) / 64)
+
+/* Codes. */
+enum {
+    SARVOLTIG_DONE = 0, /* open, new, all pages walked, or found */
+    SARVOLTIG_SAME = 64,
+    SARVOLTIG_WAITING = 65
+};
+
+/* Refusals. What one carries is named behind it; the others carry 0. */
+enum {
+    SARVOLTIG_LENGTH = 1,         /* the file's length is not a multiple of 512 from 512 to SARVOLTIG_LONGEST */
+    SARVOLTIG_IMAGE_SHORT = 2,    /* the image is shorter than the file */
+    SARVOLTIG_MAP_SHORT = 3,      /* the map has fewer than SARVOLTIG_MAP_WORDS(len) words */
+    SARVOLTIG_MAP_SPARE = 4,      /* a bit behind the last block is set in a word that counts */
+    SARVOLTIG_BLOCK_NUMBER = 5,   /* the file has no such block */
+    SARVOLTIG_PIECE_SIZE = 6,     /* the piece is not 512 bytes */
+    SARVOLTIG_BLOCK_DIFFERS = 7,  /* the block is held with other bytes, which stay */
+    SARVOLTIG_TABLE_TYPE = 8,     /* the table is not one of the ten */
+    SARVOLTIG_FILE_HEADER = 9,    /* the file header is broken */
+    SARVOLTIG_NO_POINTER = 10,    /* the file has no such table */
+    SARVOLTIG_PAGE_LINK = 11,     /* a link names no page: the page that holds it, 0 for the file header */
+    SARVOLTIG_PAGE_HEADER = 12,   /* a page's header names another page or table: the page */
+    SARVOLTIG_ROW_INDEX = 13,     /* a row index does not fit: the page */
+    SARVOLTIG_ROW_SHORT = 14,     /* a row does not fit, or an artist row is of no known subtype: the page */
+    SARVOLTIG_TEXT_FAULT = 15,    /* a string is malformed or outside: the page */
+    SARVOLTIG_CHAIN_LOOP = 16,    /* a table's pages come back to one before the last */
+    SARVOLTIG_LIST_SHORT = 17,    /* the list is shorter than the rows found: the rows found */
+    SARVOLTIG_NO_ROW = 18,        /* the table has no such record */
+    SARVOLTIG_NO_SLOT = 19        /* the table's records have no such string slot */
+};
+
+/* Tables, with the values of their records. Every table but the playlist entries has strings: tracks 21 slots, the others slot 0. */
+enum {
+    SARVOLTIG_TRACKS = 0,           /* SARVOLTIG_TRACK_.. */
+    SARVOLTIG_GENRES = 1,           /* id */
+    SARVOLTIG_ARTISTS = 2,          /* id */
+    SARVOLTIG_ALBUMS = 3,           /* artist_id, id */
+    SARVOLTIG_LABELS = 4,           /* id */
+    SARVOLTIG_KEYS = 5,             /* id */
+    SARVOLTIG_COLORS = 6,           /* id */
+    SARVOLTIG_PLAYLIST_TREE = 7,    /* SARVOLTIG_NODE_.. */
+    SARVOLTIG_PLAYLIST_ENTRIES = 8, /* SARVOLTIG_ENTRY_.. */
+    SARVOLTIG_ARTWORK = 13          /* id */
+};
+
+/* Where a track's numbers stand in the result. */
+enum {
+    SARVOLTIG_TRACK_SAMPLE_RATE,
+    SARVOLTIG_TRACK_COMPOSER_ID,
+    SARVOLTIG_TRACK_FILE_SIZE,
+    SARVOLTIG_TRACK_ARTWORK_ID,
+    SARVOLTIG_TRACK_KEY_ID,
+    SARVOLTIG_TRACK_ORIGINAL_ARTIST_ID,
+    SARVOLTIG_TRACK_LABEL_ID,
+    SARVOLTIG_TRACK_REMIXER_ID,
+    SARVOLTIG_TRACK_BITRATE,
+    SARVOLTIG_TRACK_TRACK_NUMBER,
+    SARVOLTIG_TRACK_TEMPO,
+    SARVOLTIG_TRACK_GENRE_ID,
+    SARVOLTIG_TRACK_ALBUM_ID,
+    SARVOLTIG_TRACK_ARTIST_ID,
+    SARVOLTIG_TRACK_ID,
+    SARVOLTIG_TRACK_DISC_NUMBER,
+    SARVOLTIG_TRACK_PLAY_COUNT,
+    SARVOLTIG_TRACK_YEAR,
+    SARVOLTIG_TRACK_SAMPLE_DEPTH,
+    SARVOLTIG_TRACK_DURATION,
+    SARVOLTIG_TRACK_COLOR_ID,
+    SARVOLTIG_TRACK_RATING
+};
+
+/* A row of the playlist tree, and an entry of a playlist. */
+enum {
+    SARVOLTIG_NODE_PARENT_ID,
+    SARVOLTIG_NODE_SORT_ORDER,
+    SARVOLTIG_NODE_ID,
+    SARVOLTIG_NODE_RAW_IS_FOLDER /* other than 0 for a folder */
+};
+enum {
+    SARVOLTIG_ENTRY_INDEX,
+    SARVOLTIG_ENTRY_TRACK_ID,
+    SARVOLTIG_ENTRY_PLAYLIST_ID
+};
+
+/* All rows, and SARVOLTIG_WAITING, which has the page too. */
+enum {
+    SARVOLTIG_ROWS,
+    SARVOLTIG_PAGES,
+    SARVOLTIG_PAGE
+};
+
+/* A string. */
+enum {
+    SARVOLTIG_TEXT_PLACE,   /* where its text starts in the image */
+    SARVOLTIG_TEXT_LENGTH,  /* its length in bytes */
+    SARVOLTIG_TEXT_ENCODING /* SARVOLTIG_ASCII or SARVOLTIG_UTF16LE */
+};
+enum {
+    SARVOLTIG_ASCII = 0,
+    SARVOLTIG_UTF16LE = 1
+};
+
+/* String slots of a track. */
+enum {
+    SARVOLTIG_SLOT_ISRC = 0,
+    SARVOLTIG_SLOT_TEXTER = 1,
+    SARVOLTIG_SLOT_MESSAGE = 5,
+    SARVOLTIG_SLOT_KUVO_PUBLIC = 6,
+    SARVOLTIG_SLOT_AUTOLOAD_HOTCUES = 7,
+    SARVOLTIG_SLOT_DATE_ADDED = 10,
+    SARVOLTIG_SLOT_RELEASE_DATE = 11,
+    SARVOLTIG_SLOT_MIX_NAME = 12,
+    SARVOLTIG_SLOT_ANALYZE_PATH = 14,
+    SARVOLTIG_SLOT_ANALYZE_DATE = 15,
+    SARVOLTIG_SLOT_COMMENT = 16,
+    SARVOLTIG_SLOT_TITLE = 17,
+    SARVOLTIG_SLOT_FILENAME = 19,
+    SARVOLTIG_SLOT_FILE_PATH = 20
+};
+
+/*
+ * Opens an intake for a file of len bytes: clears the map's words that count. The image is neither read nor written.
+ *
+ *     0           the file's number of blocks
+ *     1 to 3      refused
+ *
+ * Every later call takes the same len, image and map. Before any opening len is 0, which they refuse with 1.
+ */
+uint32_t sarvoltig_open(uint64_t len,
+                        const uint8_t *image, size_t image_len,
+                        uint64_t *map, size_t map_len,
+                        uint64_t *result, size_t result_len);
+
+/*
+ * Delivers a block, the 512 bytes of the file from block * 512 on. A block that is not held is copied to the image and its
+ * bit is set in the map; otherwise both stay.
+ *
+ *     0           new: the number of blocks held, with this one
+ *     64          the block was held with the same bytes: the number of blocks held
+ *     1 to 7      refused
+ */
+uint32_t sarvoltig_deliver(uint64_t len,
+                           uint8_t *image, size_t image_len,
+                           uint64_t *map, size_t map_len,
+                           uint64_t block,
+                           const uint8_t *piece, size_t piece_len,
+                           uint64_t *result, size_t result_len);
+
+/*
+ * Asks for all rows of a table. Their places, the byte offsets in the image where they start, go to the front of the list;
+ * the rest of the list stays.
+ *
+ *     0           all rows: how many, and the pages walked
+ *     65          the rows so far: how many, the pages walked, and the first page that is not wholly held
+ *     1 to 4, 8 to 17      refused; the list stays. 17 carries the length that the list needs
+ */
+uint32_t sarvoltig_rows(uint64_t len,
+                        const uint8_t *image, size_t image_len,
+                        const uint64_t *map, size_t map_len,
+                        uint32_t table,
+                        uint32_t *list, size_t list_len,
+                        uint64_t *result, size_t result_len);
+
+/*
+ * Asks for record k of a table, from 0, in the order of its rows.
+ *
+ *     0           the record's numbers, as the table of tables above has them
+ *     65          not found so far: rows, pages and page, as above
+ *     1 to 4, 8 to 16, 18  refused
+ */
+uint32_t sarvoltig_record(uint64_t len,
+                          const uint8_t *image, size_t image_len,
+                          const uint64_t *map, size_t map_len,
+                          uint32_t table, uint64_t k,
+                          uint64_t *result, size_t result_len);
+
+/*
+ * Asks for a string slot of record k of a table.
+ *
+ *     0           the text's place in the image, its length in bytes and its encoding. The text is not decoded
+ *     65          not found so far: rows, pages and page, as above
+ *     1 to 4, 8 to 16, 18, 19      refused
+ */
+uint32_t sarvoltig_text(uint64_t len,
+                        const uint8_t *image, size_t image_len,
+                        const uint64_t *map, size_t map_len,
+                        uint32_t table, uint64_t k, uint64_t slot,
+                        uint64_t *result, size_t result_len);
+
+#ifdef __cplusplus
+}
+#endif
+
+#endif

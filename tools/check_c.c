@@ -1,0 +1,182 @@
+/*
+ * Runs case D of document 01 through the C interface. Every slice has guard elements behind it: each call has to give the
+ * code and the values of document 01, and to leave everything else as it was.
+ */
+#include <inttypes.h>
+#include <stdint.h>
+#include <stdio.h>
+#include <string.h>
+
+#include "sarvoltig.h"
+
+enum { LEN = 1536, ROWS = 4, GUARD = 4 };
+
+static uint8_t image[LEN + GUARD];
+static uint64_t map[1 + GUARD];
+static uint32_t list[ROWS + GUARD];
+static uint64_t result[SARVOLTIG_RESULT + GUARD];
+static uint8_t file[LEN];
+static unsigned failures;
+
+/* What the buffers hold where nothing was written. */
+static void fill(void)
+{
+    memset(image, 0xa5, sizeof image);
+    memset(map, 0xa5, sizeof map);
+    memset(list, 0xa5, sizeof list);
+}
+
+static void expect(int holds, const char *what)
+{
+    if (!holds) {
+        fprintf(stderr, "check_c: %s\n", what);
+        failures++;
+    }
+}
+
+/* Clears the result before a call. */
+static uint64_t *clear(void)
+{
+    memset(result, 0xa5, sizeof result);
+    return result;
+}
+
+/* The call's code and values; what stands behind the values is as before the call. */
+static void answers(const char *what, uint32_t code, uint32_t expected, size_t count, uint64_t a, uint64_t b, uint64_t c)
+{
+    const uint64_t values[3] = {a, b, c};
+    size_t i;
+
+    if (code != expected) {
+        fprintf(stderr, "check_c: %s: code %" PRIu32 ", not %" PRIu32 "\n", what, code, expected);
+        failures++;
+    }
+    for (i = 0; i < sizeof result / sizeof result[0]; i++) {
+        uint64_t value = i < count ? values[i] : 0xa5a5a5a5a5a5a5a5u;
+
+        if (result[i] != value) {
+            fprintf(stderr, "check_c: %s: value %u is %" PRIu64 ", not %" PRIu64 "\n", what, (unsigned)i, result[i], value);
+            failures++;
+        }
+    }
+}
+
+static void put32(size_t at, uint32_t n)
+{
+    size_t i;
+
+    for (i = 0; i < 4; i++) {
+        file[at + i] = (uint8_t)(n >> (8 * i));
+    }
+}
+
+static void make_file(void)
+{
+    put32(0x04, 512);
+    put32(0x08, 1);
+    put32(0x1c, SARVOLTIG_GENRES);
+    put32(0x24, 1);
+    put32(0x28, 2);
+    put32(512 + 0x04, 1);
+    put32(512 + 0x08, SARVOLTIG_GENRES);
+    put32(512 + 0x0c, 2);
+    file[512 + 0x1b] = 0x64;
+    put32(1024 + 0x04, 2);
+    put32(1024 + 0x08, SARVOLTIG_GENRES);
+    file[1024 + 0x18] = 2;
+    file[1024 + 0x19] = 0x20;
+    file[1024 + 0x1b] = 0x24;
+    put32(1024 + 0x28 + 16, 7);
+    memcpy(&file[1024 + 0x28 + 20], "\x0b" "Funk", 5);
+    file[1536 - 4] = 0x02;
+    file[1536 - 8] = 16;
+}
+
+static uint32_t deliver(uint64_t block, const uint8_t *piece, size_t piece_len)
+{
+    return sarvoltig_deliver(LEN, image, LEN, map, 1, block, piece, piece_len, clear(), SARVOLTIG_RESULT);
+}
+
+static uint32_t rows(uint32_t table, size_t length)
+{
+    return sarvoltig_rows(LEN, image, LEN, map, 1, table, list, length, clear(), SARVOLTIG_RESULT);
+}
+
+static uint32_t record(uint32_t table, uint64_t k)
+{
+    return sarvoltig_record(LEN, image, LEN, map, 1, table, k, clear(), SARVOLTIG_RESULT);
+}
+
+static uint32_t text(uint32_t table, uint64_t k, uint64_t slot)
+{
+    return sarvoltig_text(LEN, image, LEN, map, 1, table, k, slot, clear(), SARVOLTIG_RESULT);
+}
+
+static void run_intake(void)
+{
+    answers("delivery before any opening", sarvoltig_deliver(0, image, LEN, map, 1, 0, file, 512, clear(), SARVOLTIG_RESULT),
+            SARVOLTIG_LENGTH, 1, 0, 0, 0);
+    answers("opening of no file", sarvoltig_open(0, image, LEN, map, 1, clear(), SARVOLTIG_RESULT), SARVOLTIG_LENGTH, 1, 0, 0, 0);
+    answers("opening with a short image", sarvoltig_open(LEN, image, LEN - 1, map, 1, clear(), SARVOLTIG_RESULT),
+            SARVOLTIG_IMAGE_SHORT, 1, 0, 0, 0);
+    answers("opening with no map", sarvoltig_open(LEN, image, LEN, map, 0, clear(), SARVOLTIG_RESULT), SARVOLTIG_MAP_SHORT, 1, 0,
+            0, 0);
+    expect(map[0] == 0xa5a5a5a5a5a5a5a5u, "a refused opening leaves the map");
+    answers("opening", sarvoltig_open(LEN, image, LEN, map, 1, clear(), SARVOLTIG_RESULT), SARVOLTIG_DONE, 1, 3, 0, 0);
+    expect(map[0] == 0, "an opening clears the map");
+    answers("rows before any block", rows(SARVOLTIG_GENRES, ROWS), SARVOLTIG_WAITING, 3, 0, 0, 0);
+    answers("block 2", deliver(2, file + 1024, 512), SARVOLTIG_DONE, 1, 1, 0, 0);
+    answers("block 0", deliver(0, file, 512), SARVOLTIG_DONE, 1, 2, 0, 0);
+    answers("rows with page 1 missing", rows(SARVOLTIG_GENRES, ROWS), SARVOLTIG_WAITING, 3, 0, 0, 1);
+    answers("record with page 1 missing", record(SARVOLTIG_GENRES, 0), SARVOLTIG_WAITING, 3, 0, 0, 1);
+    answers("text with page 1 missing", text(SARVOLTIG_GENRES, 0, 0), SARVOLTIG_WAITING, 3, 0, 0, 1);
+    answers("block 0 again", deliver(0, file, 512), SARVOLTIG_SAME, 1, 2, 0, 0);
+    answers("block 0 with other bytes", deliver(0, file + 512, 512), SARVOLTIG_BLOCK_DIFFERS, 1, 0, 0, 0);
+    answers("block 3", deliver(3, file, 512), SARVOLTIG_BLOCK_NUMBER, 1, 0, 0, 0);
+    answers("block 2^40", deliver((uint64_t)1 << 40, file, 512), SARVOLTIG_BLOCK_NUMBER, 1, 0, 0, 0);
+    answers("a short piece", deliver(1, file, 511), SARVOLTIG_PIECE_SIZE, 1, 0, 0, 0);
+    expect(map[0] == 5, "the map has blocks 0 and 2");
+    answers("block 1", deliver(1, file + 512, 512), SARVOLTIG_DONE, 1, 3, 0, 0);
+    expect(map[0] == 7 && memcmp(image, file, LEN) == 0, "the image is the file");
+}
+
+static void run_questions(void)
+{
+    answers("rows for no list", rows(SARVOLTIG_GENRES, 0), SARVOLTIG_LIST_SHORT, 1, 1, 0, 0);
+    expect(list[0] == 0xa5a5a5a5u, "a refusal leaves the list");
+    answers("rows", rows(SARVOLTIG_GENRES, ROWS), SARVOLTIG_DONE, 2, 1, 2, 0);
+    expect(list[0] == 1080 && list[1] == 0xa5a5a5a5u, "the list has the row's place, and no other");
+    answers("rows of an unknown table", rows(9, ROWS), SARVOLTIG_TABLE_TYPE, 1, 0, 0, 0);
+    answers("rows of table 2^32 - 1", rows(UINT32_MAX, ROWS), SARVOLTIG_TABLE_TYPE, 1, 0, 0, 0);
+    answers("rows of a table with no pointer", rows(SARVOLTIG_TRACKS, ROWS), SARVOLTIG_NO_POINTER, 1, 0, 0, 0);
+    answers("record 0", record(SARVOLTIG_GENRES, 0), SARVOLTIG_DONE, 1, 7, 0, 0);
+    answers("record 1", record(SARVOLTIG_GENRES, 1), SARVOLTIG_NO_ROW, 1, 0, 0, 0);
+    answers("record 2^32", record(SARVOLTIG_GENRES, (uint64_t)1 << 32), SARVOLTIG_NO_ROW, 1, 0, 0, 0);
+    answers("text", text(SARVOLTIG_GENRES, 0, 0), SARVOLTIG_DONE, 3, 1085, 4, SARVOLTIG_ASCII);
+    expect(memcmp(image + 1085, "Funk", 4) == 0, "the text is Funk");
+    answers("text of slot 1", text(SARVOLTIG_GENRES, 0, 1), SARVOLTIG_NO_SLOT, 1, 0, 0, 0);
+    answers("text of slot 2^32", text(SARVOLTIG_GENRES, 0, (uint64_t)1 << 32), SARVOLTIG_NO_SLOT, 1, 0, 0, 0);
+    answers("text with a result of two",
+            sarvoltig_text(LEN, image, LEN, map, 1, SARVOLTIG_GENRES, 0, 0, clear(), 2), SARVOLTIG_DONE, 2, 1085, 4, 0);
+    answers("text with no result", sarvoltig_text(LEN, image, LEN, map, 1, SARVOLTIG_GENRES, 0, 0, clear(), 0), SARVOLTIG_DONE, 0,
+            0, 0, 0);
+    expect(map[0] == 7 && memcmp(image, file, LEN) == 0, "a question leaves image and map");
+}
+
+int main(void)
+{
+    size_t i;
+
+    fill();
+    make_file();
+    run_intake();
+    run_questions();
+    for (i = 0; i < GUARD; i++) {
+        expect(image[LEN + i] == 0xa5 && map[1 + i] == 0xa5a5a5a5a5a5a5a5u && list[ROWS + i] == 0xa5a5a5a5u,
+               "nothing is written behind a slice");
+    }
+    if (failures == 0) {
+        puts("check_c: the C interface answers as document 01 says");
+    }
+    return failures != 0;
+}
