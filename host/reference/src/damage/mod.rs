@@ -1,0 +1,174 @@
+//! Damaged exports.
+
+mod header;
+mod pages;
+mod rows;
+mod target;
+
+use crate::rng::Rng;
+use target::Target;
+
+/// What is damaged.
+#[derive(Clone, Copy, Debug, PartialEq, Eq)]
+pub enum Kind {
+    /// Bytes `00`-`03` of the file.
+    FirstBytes,
+    /// len_page of the file header.
+    LenPage,
+    /// num_tables of the file header.
+    NumTables,
+    /// A pointer gets the type of another.
+    PointerTwice,
+    /// The type of a pointer.
+    PointerType,
+    /// first_page of a pointer.
+    FirstPage,
+    /// last_page of a pointer.
+    LastPage,
+    /// page_index of a page.
+    PageIndex,
+    /// type of a page.
+    PageType,
+    /// next_page of a page.
+    NextPage,
+    /// next_page of a page becomes that page or one before it in the chain.
+    Loop,
+    /// num_rows_small of a page.
+    NumRowsSmall,
+    /// num_rows_large of a page.
+    NumRowsLarge,
+    /// page_flags of a page.
+    PageFlags,
+    /// The presence flags of a group.
+    Presence,
+    /// The offset of a row.
+    RowOffset,
+    /// The first bytes of a row, where an artist has its subtype.
+    RowStart,
+    /// A row whose fixed part ends near the index.
+    RowAtEnd,
+    /// The offset of a string.
+    StringOffset,
+    /// The head of a string.
+    StringHead,
+    /// A string that ends near the index.
+    StringAtEnd,
+    /// Some bytes anywhere.
+    Bytes,
+    /// Some blocks become zero.
+    Blocks,
+}
+
+impl Kind {
+    /// All kinds.
+    pub const ALL: [Kind; 23] = [
+        Kind::FirstBytes,
+        Kind::LenPage,
+        Kind::NumTables,
+        Kind::PointerTwice,
+        Kind::PointerType,
+        Kind::FirstPage,
+        Kind::LastPage,
+        Kind::PageIndex,
+        Kind::PageType,
+        Kind::NextPage,
+        Kind::Loop,
+        Kind::NumRowsSmall,
+        Kind::NumRowsLarge,
+        Kind::PageFlags,
+        Kind::Presence,
+        Kind::RowOffset,
+        Kind::RowStart,
+        Kind::RowAtEnd,
+        Kind::StringOffset,
+        Kind::StringHead,
+        Kind::StringAtEnd,
+        Kind::Bytes,
+        Kind::Blocks,
+    ];
+
+    /// Kinds that break the file header.
+    fn of_header() -> &'static [Kind] {
+        &Kind::ALL[..4]
+    }
+
+    /// Kinds about pointers, links and what a page says it is.
+    fn of_links() -> &'static [Kind] {
+        &Kind::ALL[4..11]
+    }
+
+    /// Kinds about the number of rows of a page.
+    fn of_counts() -> &'static [Kind] {
+        &Kind::ALL[11..15]
+    }
+
+    /// Kinds about rows and strings.
+    fn of_rows() -> &'static [Kind] {
+        &Kind::ALL[15..21]
+    }
+}
+
+/// Damages an export in one way, or in several when it has several tables.
+///
+/// ```
+/// use sarvoltig_reference::{damage::damage, generate, rng::Rng};
+///
+/// let export = generate::demo();
+/// let damaged = damage(&export, &mut Rng::new(2));
+/// assert_eq!(damaged.len(), export.len());
+/// assert_ne!(damaged, export);
+/// ```
+pub fn damage(export: &[u8], rng: &mut Rng) -> Vec<u8> {
+    let mut bytes = export.to_vec();
+    let tables = Target::new(&mut bytes, rng).table_pointers().len().max(1) as u64;
+    let (kinds, most) = match rng.below(16) {
+        0 => (Kind::of_header(), 1),
+        1..4 => (Kind::of_links(), tables.div_ceil(2)),
+        4..6 => (Kind::of_counts(), tables.div_ceil(2)),
+        6..14 => (Kind::of_rows(), tables),
+        _ => (&Kind::ALL[..], tables),
+    };
+    for _ in 0..1 + rng.below(most) {
+        apply(rng.pick(kinds), &mut bytes, rng);
+    }
+    bytes
+}
+
+/// Damages an export in one way. Where the export has no such place, as a row
+/// when all tables are empty, nothing changes.
+///
+/// ```
+/// use sarvoltig_reference::{damage::{apply, Kind}, generate, rng::Rng};
+///
+/// let mut export = generate::demo();
+/// apply(Kind::FirstBytes, &mut export, &mut Rng::new(2));
+/// assert_ne!(export[..4], [0; 4]);
+/// ```
+pub fn apply(kind: Kind, export: &mut [u8], rng: &mut Rng) {
+    let mut target = Target::new(export, rng);
+    match kind {
+        Kind::FirstBytes => target.first_bytes(),
+        Kind::LenPage => target.len_page_field(),
+        Kind::NumTables => target.num_tables_field(),
+        Kind::PointerTwice => target.pointer_twice(),
+        Kind::PointerType => target.pointer_type(),
+        Kind::FirstPage => target.pointer_link(0x08),
+        Kind::LastPage => target.pointer_link(0x0c),
+        Kind::PageIndex => target.page_link(0x04),
+        Kind::PageType => target.page_type(),
+        Kind::NextPage => target.page_link(0x0c),
+        Kind::Loop => target.loop_in_chain(),
+        Kind::NumRowsSmall => target.num_rows_small(),
+        Kind::NumRowsLarge => target.num_rows_large(),
+        Kind::PageFlags => target.page_flags(),
+        Kind::Presence => target.presence(),
+        Kind::RowOffset => target.row_offset(),
+        Kind::RowStart => target.row_start(),
+        Kind::RowAtEnd => target.row_at_end(),
+        Kind::StringOffset => target.string_offset(),
+        Kind::StringHead => target.string_head(),
+        Kind::StringAtEnd => target.string_at_end(),
+        Kind::Bytes => target.any_bytes(),
+        Kind::Blocks => target.any_blocks(),
+    }
+}

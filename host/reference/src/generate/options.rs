@@ -1,0 +1,134 @@
+//! What a generated export is like.
+
+use crate::model::{Table, BLOCK_SIZE};
+use crate::rng::Rng;
+
+/// What a generated export is like.
+///
+/// ```
+/// use sarvoltig_reference::{generate::Options, rng::Rng};
+///
+/// let options = Options::random(&mut Rng::new(3));
+/// assert!((512..=32_768).contains(&options.len_page));
+/// ```
+#[derive(Clone, Debug)]
+pub struct Options {
+    /// Where the random numbers start.
+    pub seed: u64,
+    /// The length of a page: a multiple of 512 from 512 to 32,768.
+    pub len_page: u32,
+    /// Present rows of each table in the order of [`Table::ALL`]; a table
+    /// without a number has no pointer.
+    pub rows: [Option<u32>; 10],
+    /// How many of 100 rows come after an absent one.
+    pub absent: u64,
+    /// Before how many of 100 pages a page with flag `40` stands in the chain.
+    pub strange: u64,
+    /// Pages off the chains.
+    pub spare_pages: u32,
+    /// More pages off the chains are added until the file has so many pages.
+    pub min_pages: u32,
+    /// The longest text of a random string, in bytes.
+    pub longest_text: usize,
+    /// Whether pages stand in random order.
+    pub shuffled: bool,
+    /// Whether bytes that document 01 does not name are zero, rows stand side
+    /// by side in the order of the index, and pages are filled.
+    pub tidy: bool,
+}
+
+impl Default for Options {
+    fn default() -> Self {
+        Options {
+            seed: 1,
+            len_page: 4096,
+            rows: [Some(20); 10],
+            absent: 20,
+            strange: 20,
+            spare_pages: 2,
+            min_pages: 0,
+            longest_text: 200,
+            shuffled: true,
+            tidy: false,
+        }
+    }
+}
+
+impl Options {
+    /// An export without random bytes, absent rows and pages off the chains.
+    pub fn tidy(len_page: u32) -> Self {
+        Options {
+            len_page,
+            absent: 0,
+            strange: 0,
+            spare_pages: 0,
+            shuffled: false,
+            tidy: true,
+            ..Options::default()
+        }
+    }
+
+    /// Any page length, any of the tables, and a file that is not long. One of
+    /// two has a single table of a few rows.
+    pub fn random(rng: &mut Rng) -> Self {
+        if rng.chance(1, 2) {
+            Options::random_small(rng)
+        } else {
+            Options::random_medium(rng)
+        }
+    }
+
+    fn random_small(rng: &mut Rng) -> Self {
+        let mut rows = [None; 10];
+        rows[rng.index(10)] = Some(1 + rng.below(4) as u32);
+        Options {
+            seed: rng.next_u64(),
+            len_page: 512 * rng.pick(&[1, 1, 2, 3]),
+            rows,
+            absent: 20,
+            strange: rng.pick(&[0, 20]),
+            spare_pages: rng.below(2) as u32,
+            longest_text: 30,
+            ..Options::default()
+        }
+    }
+
+    fn random_medium(rng: &mut Rng) -> Self {
+        let blocks = match rng.below(16) {
+            0 => 64,
+            1 => 1 + rng.below(64),
+            2..4 => 1 + rng.below(16),
+            _ => 1 + rng.below(4),
+        };
+        Options {
+            seed: rng.next_u64(),
+            len_page: blocks as u32 * BLOCK_SIZE as u32,
+            rows: Table::ALL.map(|table| random_rows(table, blocks, rng)),
+            absent: rng.pick(&[0, 10, 40]),
+            strange: rng.pick(&[0, 10, 50]),
+            spare_pages: rng.below(3) as u32,
+            min_pages: rng.pick(&[0, 0, 0, 64 / blocks, 65 / blocks]) as u32,
+            longest_text: rng.pick(&[10, 60, 400, 4000]),
+            shuffled: rng.chance(7, 8),
+            tidy: rng.chance(1, 16),
+        }
+    }
+}
+
+/// Few tables when pages are long, and rows for a few pages.
+fn random_rows(table: Table, blocks: u64, rng: &mut Rng) -> Option<u32> {
+    let rarity = match table {
+        Table::PlaylistEntries => 1 + blocks / 16,
+        _ => 1 + blocks / 4,
+    };
+    if !rng.chance(1, rarity) {
+        return None;
+    }
+    let most = match table {
+        _ if rng.chance(1, 2) => 5,
+        Table::Tracks => 2 + 3 * blocks.min(8),
+        Table::PlaylistEntries => 80 * blocks.min(16),
+        _ => 8 + 12 * blocks.min(8),
+    };
+    Some(rng.below(most) as u32)
+}

@@ -1,0 +1,118 @@
+//! Which rows stand on which page.
+
+use std::mem;
+
+use super::content::Row;
+use super::encode::{encode, Chunk};
+use super::Options;
+use crate::model::{index_size, Table, PAGE_HEADER};
+use crate::rng::Rng;
+
+/// `num_rows_large` cannot say `1fff` entries.
+const MOST_ENTRIES: usize = 0x1ffe;
+
+/// An entry of the row index and its bytes in the heap.
+pub(super) struct Entry {
+    /// Bytes of the heap left unused before it.
+    pub gap: usize,
+    pub len: usize,
+    /// None is an absent row.
+    pub row: Option<(Row, Chunk)>,
+}
+
+/// A page of a chain.
+pub(super) struct Page {
+    /// Whether flag `40` is set.
+    pub strange: bool,
+    pub entries: Vec<Entry>,
+    most_entries: usize,
+}
+
+impl Page {
+    /// A page that is sometimes closed before it is full.
+    fn data(options: &Options, rng: &mut Rng) -> Self {
+        let most_entries = match options.tidy || rng.chance(2, 3) {
+            true => MOST_ENTRIES,
+            false => 1 + rng.index(40),
+        };
+        Page {
+            strange: false,
+            entries: Vec::new(),
+            most_entries,
+        }
+    }
+
+    fn strange() -> Self {
+        Page {
+            strange: true,
+            entries: Vec::new(),
+            most_entries: 0,
+        }
+    }
+
+    fn fits(&self, entry: &Entry, options: &Options) -> bool {
+        let heap: usize = self
+            .entries
+            .iter()
+            .chain([entry])
+            .map(|entry| entry.gap + entry.len)
+            .sum();
+        let entries = self.entries.len() + 1;
+        entries <= self.most_entries
+            && PAGE_HEADER + heap + index_size(entries) <= options.len_page as usize
+    }
+}
+
+/// The chain of a table: at least one page.
+pub(super) fn chain(table: Table, rows: Vec<Row>, options: &Options, rng: &mut Rng) -> Vec<Page> {
+    let mut pages = Vec::new();
+    let mut page = Page::data(options, rng);
+    for row in rows {
+        if rng.chance(options.absent, 100) {
+            let absent = Entry {
+                gap: 0,
+                len: rng.index(30),
+                row: None,
+            };
+            if page.fits(&absent, options) {
+                page.entries.push(absent);
+            }
+        }
+        let mut entry = row_entry(table, row, options, rng);
+        if !page.fits(&entry, options) {
+            pages.push(mem::replace(&mut page, Page::data(options, rng)));
+            entry.gap = 0;
+        }
+        page.entries.push(entry);
+    }
+    pages.push(page);
+    with_strange_pages(pages, options, rng)
+}
+
+fn row_entry(table: Table, row: Row, options: &Options, rng: &mut Rng) -> Entry {
+    let chunk = encode(table, &row, options, rng);
+    let gap = match options.tidy || rng.chance(3, 4) {
+        true => 0,
+        false => rng.index(9),
+    };
+    Entry {
+        gap,
+        len: chunk.len,
+        row: Some((row, chunk)),
+    }
+}
+
+/// Strange pages before pages, and sometimes one as the last.
+fn with_strange_pages(pages: Vec<Page>, options: &Options, rng: &mut Rng) -> Vec<Page> {
+    let mut chain = Vec::new();
+    for page in pages {
+        if rng.chance(options.strange, 100) {
+            chain.push(Page::strange());
+        }
+        chain.push(page);
+    }
+    if !options.tidy && rng.chance(options.strange, 200) {
+        chain.push(Page::strange());
+    }
+    chain
+}

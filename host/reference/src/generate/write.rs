@@ -1,0 +1,250 @@
+//! Writes the header, the chains and the pages off them.
+
+use super::content::{Row, Tables};
+use super::encode::Chunk;
+use super::marked::MarkedBytes;
+use super::plan::{self, Entry, Page};
+use super::{Expected, ExpectedRow, ExpectedTable, ExpectedText, Export, Options};
+use crate::model::{Table, GROUP_SIZE, PAGE_HEADER};
+use crate::rng::Rng;
+
+/// "num_tables at `08` from 1 to 30"
+const MOST_POINTERS: usize = 30;
+
+struct Pointer {
+    table_type: u32,
+    /// First and last page, of a table that is read.
+    pages: Option<(u32, u32)>,
+}
+
+/// Pointers of types that are not read.
+fn pointers_of_other_types(count: usize) -> impl Iterator<Item = Pointer> {
+    [u32::MAX]
+        .into_iter()
+        .chain(0..)
+        .filter(|table_type| Table::of_type(*table_type).is_none())
+        .take(count)
+        .map(|table_type| Pointer {
+            table_type,
+            pages: None,
+        })
+}
+
+struct Writer<'a> {
+    file: MarkedBytes,
+    options: &'a Options,
+    rng: &'a mut Rng,
+}
+
+pub(super) fn export(tables: Tables, options: &Options, rng: &mut Rng) -> Export {
+    let chains: Vec<(Table, Vec<Page>)> = tables
+        .into_iter()
+        .map(|(table, rows)| (table, plan::chain(table, rows, options, rng)))
+        .collect();
+    let chained: usize = chains.iter().map(|(_, pages)| pages.len()).sum();
+    let pages = (1 + chained as u32 + options.spare_pages).max(options.min_pages);
+    let mut numbers: Vec<u32> = (1..pages).collect();
+    if options.shuffled {
+        rng.shuffle(&mut numbers);
+    }
+    let len = pages as usize * options.len_page as usize;
+    let fill = match options.tidy {
+        true => vec![0; len],
+        false => rng.bytes(len),
+    };
+    let mut writer = Writer {
+        file: MarkedBytes::new(fill),
+        options,
+        rng,
+    };
+    let tables = writer.put_chains(chains, numbers);
+    let (bytes, free) = writer.file.finish();
+    Export {
+        bytes,
+        expected: Expected { tables, free },
+    }
+}
+
+impl Writer<'_> {
+    /// Each chain takes the next of the page numbers; the rest are off the chains.
+    fn put_chains(
+        &mut self,
+        chains: Vec<(Table, Vec<Page>)>,
+        mut numbers: Vec<u32>,
+    ) -> Vec<ExpectedTable> {
+        let mut pointers = Vec::new();
+        let mut tables = Vec::new();
+        for (table, pages) in chains {
+            let rest = numbers.split_off(pages.len());
+            pointers.push(Pointer {
+                table_type: u32::from(table.number()),
+                pages: numbers.first().copied().zip(numbers.last().copied()),
+            });
+            tables.push(self.put_chain(table, pages, &numbers));
+            numbers = rest;
+        }
+        self.put_header(pointers);
+        for spare in numbers {
+            self.copy_any_page(spare);
+        }
+        tables
+    }
+
+    /// A page off the chains may look like one of a chain.
+    fn copy_any_page(&mut self, spare: u32) {
+        if self.options.tidy || self.rng.chance(1, 2) {
+            return;
+        }
+        let other = 1 + self.rng.below(u64::from(spare)) as u32;
+        let from = self.page_start(other);
+        let len = self.options.len_page as usize;
+        self.file.copy(from..from + len, self.page_start(spare));
+    }
+
+    fn put_header(&mut self, mut pointers: Vec<Pointer>) {
+        if !self.options.tidy || pointers.is_empty() {
+            let most = MOST_POINTERS - pointers.len();
+            let others = match self.rng.below(4) {
+                0 => most,
+                _ => 1 + self.rng.index(8),
+            };
+            pointers.extend(pointers_of_other_types(others));
+            self.rng.shuffle(&mut pointers);
+        }
+        self.file.put_u32(0x00, 0);
+        self.file.put_u32(0x04, self.options.len_page);
+        self.file.put_u32(0x08, pointers.len() as u32);
+        for (number, pointer) in pointers.iter().enumerate() {
+            let at = 0x1c + 16 * number;
+            self.file.put_u32(at, pointer.table_type);
+            if let Some((first_page, last_page)) = pointer.pages {
+                self.file.put_u32(at + 0x08, first_page);
+                self.file.put_u32(at + 0x0c, last_page);
+            }
+        }
+    }
+
+    fn put_chain(&mut self, table: Table, pages: Vec<Page>, numbers: &[u32]) -> ExpectedTable {
+        let mut rows = Vec::new();
+        for (place, page) in pages.iter().enumerate() {
+            self.put_page_header(table, page, numbers[place], numbers.get(place + 1));
+            let start = self.page_start(numbers[place]);
+            let offsets = self.offsets(&page.entries);
+            self.put_index(start, &page.entries, &offsets);
+            for (entry, offset) in page.entries.iter().zip(offsets) {
+                if let Some((row, chunk)) = &entry.row {
+                    rows.push(self.put_row(start + PAGE_HEADER + offset, row, chunk));
+                }
+            }
+        }
+        ExpectedTable {
+            table,
+            pages: pages.len() as u64,
+            rows,
+        }
+    }
+
+    fn page_start(&self, number: u32) -> usize {
+        number as usize * self.options.len_page as usize
+    }
+
+    fn put_page_header(&mut self, table: Table, page: &Page, number: u32, next: Option<&u32>) {
+        let start = self.page_start(number);
+        self.file.put_u32(start + 0x04, number);
+        self.file.put_u32(start + 0x08, u32::from(table.number()));
+        if let Some(next_page) = next {
+            self.file.put_u32(start + 0x0c, *next_page);
+        }
+        let page_flags = self.page_flags(page.strange);
+        self.file.put(start + 0x1b, &[page_flags]);
+        if !page.strange {
+            let (num_rows_small, num_rows_large) = self.counts(page.entries.len());
+            self.file.put(start + 0x18, &[num_rows_small]);
+            self.file.put_u16(start + 0x22, num_rows_large);
+        }
+    }
+
+    fn page_flags(&mut self, strange: bool) -> u8 {
+        let any = match self.options.tidy {
+            true => 0x24,
+            false => self.rng.next_u64() as u8,
+        };
+        match strange {
+            true => any | 0x40,
+            false => any & !0x40,
+        }
+    }
+
+    /// One of the ways to write a number of entries.
+    fn counts(&mut self, entries: usize) -> (u8, u16) {
+        let large = entries as u16;
+        let by_large = entries > 0 && !self.options.tidy && self.rng.chance(1, 4);
+        match u8::try_from(entries) {
+            Ok(small) if !by_large => {
+                let unused = self.rng.below(entries as u64 + 1) as u16;
+                let options = [0, unused, large, 0x1fff];
+                (small, self.rng.pick(&options))
+            }
+            _ => (self.rng.index(entries.min(0x100)) as u8, large),
+        }
+    }
+
+    /// Where each entry starts in the heap.
+    fn offsets(&mut self, entries: &[Entry]) -> Vec<usize> {
+        let mut order: Vec<usize> = (0..entries.len()).collect();
+        if !self.options.tidy {
+            self.rng.shuffle(&mut order);
+        }
+        let mut offsets = vec![0; entries.len()];
+        let mut used = 0;
+        for number in order {
+            offsets[number] = used + entries[number].gap;
+            used = offsets[number] + entries[number].len;
+        }
+        offsets
+    }
+
+    /// Document 003's figure of the table page. Pads and the offsets of absent
+    /// rows are not put.
+    fn put_index(&mut self, start: usize, entries: &[Entry], offsets: &[usize]) {
+        let mut group_end = start + self.options.len_page as usize;
+        for (entries, offsets) in entries.chunks(16).zip(offsets.chunks(16)) {
+            let mut flags = self.unused_flags(entries.len());
+            for (number, (entry, offset)) in entries.iter().zip(offsets).enumerate() {
+                if entry.row.is_some() {
+                    flags |= 1 << number;
+                    let at = group_end - 6 - 2 * number;
+                    self.file.put_u16(at, *offset as u16);
+                }
+            }
+            self.file.put_u16(group_end - 4, flags);
+            group_end -= GROUP_SIZE;
+        }
+    }
+
+    /// Presence bits past the last entry.
+    fn unused_flags(&mut self, entries: usize) -> u16 {
+        if self.options.tidy || entries == 16 {
+            return 0;
+        }
+        (self.rng.next_u64() as u16) << entries
+    }
+
+    fn put_row(&mut self, place: usize, row: &Row, chunk: &Chunk) -> ExpectedRow {
+        for (offset, bytes) in &chunk.parts {
+            self.file.put(place + offset, bytes);
+        }
+        let texts = row.texts.iter().zip(&chunk.texts);
+        ExpectedRow {
+            place: place as u32,
+            numbers: row.numbers.clone(),
+            texts: texts
+                .map(|(text, offset)| ExpectedText {
+                    place: (place + offset) as u64,
+                    bytes: text.bytes.clone(),
+                    encoding: text.encoding(),
+                })
+                .collect(),
+        }
+    }
+}

@@ -1,0 +1,29 @@
+//! An independent reference of the reader of `export.pdb` files that arrive in
+//! blocks. It is written from document 01 ("Build definition and exact rules")
+//! alone, so that another reader can be compared with it.
+//!
+//! [`model`] is the reference. [`generate`] and [`damage`] make files for it,
+//! [`schedule`] makes runs of calls, as values and as lines of text.
+//!
+//! ```
+//! use sarvoltig_reference::{generate, model::{Rows, Session}};
+//!
+//! let file = generate::demo();
+//! let mut session = Session::new(vec![0; file.len()], vec![0; 8]);
+//! session.open(file.len() as u64)?;
+//! for (block, piece) in (0..).zip(file.chunks(512)) {
+//!     session.deliver(block, piece)?;
+//! }
+//! let mut list = [0; 100];
+//! assert!(matches!(session.rows(0u8, &mut list)?, Rows::Full { rows: 24, .. }));
+//! # Ok::<(), sarvoltig_reference::model::Refusal>(())
+//! ```
+
+#![forbid(unsafe_code)]
+#![deny(missing_docs)]
+
+pub mod damage;
+pub mod generate;
+pub mod model;
+pub mod rng;
+pub mod schedule;

@@ -1,0 +1,121 @@
+//! Document 01, "Runs": the book, kept without record, image and map.
+
+use std::borrow::Cow;
+
+use super::question::{self, RecordReply, Rows, TextReply};
+use super::session::block_count;
+use super::source::Source;
+use super::{Refusal, BLOCK_SIZE};
+
+/// The book of a run, kept from the arguments of its opening and deliveries.
+/// The questions are answered from L, the book and the list.
+///
+/// ```
+/// use sarvoltig_reference::model::Book;
+///
+/// let mut book = Book::open(1024)?;
+/// book.deliver(1, &[7; 512]);
+/// book.deliver(1, &[8; 512]);
+/// book.deliver(2, &[7; 512]);
+/// assert_eq!(book.block(1), Some(&[7; 512]));
+/// assert_eq!(book.held_count(), 1);
+/// # Ok::<(), sarvoltig_reference::model::Refusal>(())
+/// ```
+#[derive(Clone, Debug, PartialEq, Eq)]
+pub struct Book {
+    blocks: Vec<Option<[u8; BLOCK_SIZE]>>,
+}
+
+impl Book {
+    /// The book of a run that opens a file of `len` bytes.
+    ///
+    /// # Errors
+    ///
+    /// Refusal 1, when no run has this length.
+    pub fn open(len: u64) -> Result<Self, Refusal> {
+        let blocks = block_count(len)?;
+        Ok(Book {
+            blocks: vec![None; blocks as usize],
+        })
+    }
+
+    /// Enters a delivery: the first block of a number stays.
+    pub fn deliver(&mut self, block: u64, piece: &[u8]) {
+        let entry = usize::try_from(block)
+            .ok()
+            .and_then(|block| self.blocks.get_mut(block));
+        if let (Some(entry), Ok(piece)) = (entry, piece.try_into()) {
+            entry.get_or_insert(piece);
+        }
+    }
+
+    /// The block of a number, if the book has it.
+    pub fn block(&self, block: usize) -> Option<&[u8; BLOCK_SIZE]> {
+        self.blocks.get(block)?.as_ref()
+    }
+
+    /// The number of blocks in the book.
+    pub fn held_count(&self) -> u64 {
+        self.blocks.iter().flatten().count() as u64
+    }
+
+    /// The whole file, when the book has every block.
+    ///
+    /// ```
+    /// # use sarvoltig_reference::model::Book;
+    /// let mut book = Book::open(512)?;
+    /// assert_eq!(book.whole_file(), None);
+    /// book.deliver(0, &[7; 512]);
+    /// assert_eq!(book.whole_file(), Some(vec![7; 512]));
+    /// # Ok::<(), sarvoltig_reference::model::Refusal>(())
+    /// ```
+    pub fn whole_file(&self) -> Option<Vec<u8>> {
+        concat(&self.blocks)
+    }
+
+    /// All rows of a table, as [`Session::rows`](super::Session::rows).
+    ///
+    /// # Errors
+    ///
+    /// Refusals 8 to 17.
+    pub fn rows(&self, table: impl Into<u32>, list: &mut [u32]) -> Result<Rows, Refusal> {
+        question::rows(self, table.into(), list)
+    }
+
+    /// Record `k` of a table.
+    ///
+    /// # Errors
+    ///
+    /// Refusals 8 to 16 and 18.
+    pub fn record(&self, table: impl Into<u32>, k: u64) -> Result<RecordReply, Refusal> {
+        question::record(self, table.into(), k)
+    }
+
+    /// String slot `slot` of record `k` of a table.
+    ///
+    /// # Errors
+    ///
+    /// Refusals 8 to 16, 18 and 19.
+    pub fn text(&self, table: impl Into<u32>, k: u64, slot: u64) -> Result<TextReply, Refusal> {
+        question::text(self, table.into(), k, slot)
+    }
+}
+
+impl Source for Book {
+    fn file_len(&self) -> u64 {
+        (self.blocks.len() * BLOCK_SIZE) as u64
+    }
+
+    fn held_bytes(&self, place: usize, len: usize) -> Option<Cow<'_, [u8]>> {
+        concat(&self.blocks[place / BLOCK_SIZE..(place + len) / BLOCK_SIZE]).map(Cow::Owned)
+    }
+}
+
+/// The blocks one after another, if none is missing.
+fn concat(blocks: &[Option<[u8; BLOCK_SIZE]>]) -> Option<Vec<u8>> {
+    let mut bytes = Vec::with_capacity(blocks.len() * BLOCK_SIZE);
+    for block in blocks {
+        bytes.extend_from_slice(block.as_ref()?);
+    }
+    Some(bytes)
+}

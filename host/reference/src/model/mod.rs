@@ -1,0 +1,22 @@
+//! The reference itself. Its files follow the sections of document 01.
+
+mod book;
+pub(crate) mod bytes;
+mod chain;
+mod directory;
+mod page;
+mod question;
+mod refusal;
+mod row;
+mod session;
+mod source;
+mod string;
+mod table;
+
+pub use book::Book;
+pub use page::{entries, index_size, GROUP_SIZE, PAGE_HEADER};
+pub use question::{RecordReply, Rows, TextReply};
+pub use refusal::Refusal;
+pub use session::{Delivered, Session, BLOCK_SIZE};
+pub use string::{read_string, Encoding, StringText};
+pub use table::Table;

@@ -1,0 +1,163 @@
+//! The three questions of document 01, over whatever blocks are held.
+
+use super::chain::{walk, Walked};
+use super::row::{Row, Text};
+use super::source::Source;
+use super::string::Encoding;
+use super::{Refusal, Table};
+
+/// The answer to the question for all rows. The places are in the list.
+///
+/// ```
+/// use sarvoltig_reference::model::{Rows, Session};
+///
+/// let mut session = Session::new(vec![0; 512], vec![0; 1]);
+/// session.open(512)?;
+/// let waiting = Rows::Waiting { page: 0, rows: 0, pages: 0 };
+/// assert_eq!(session.rows(13u8, &mut [])?, waiting);
+/// # Ok::<(), sarvoltig_reference::model::Refusal>(())
+/// ```
+#[derive(Clone, Copy, Debug, PartialEq, Eq)]
+pub enum Rows {
+    /// The walk reached the last page.
+    Full {
+        /// Rows found.
+        rows: u64,
+        /// Pages walked.
+        pages: u64,
+    },
+    /// The walk met a page that is not held whole.
+    Waiting {
+        /// That page.
+        page: u32,
+        /// Rows found.
+        rows: u64,
+        /// Pages walked.
+        pages: u64,
+    },
+}
+
+/// The answer to the question for record k.
+#[derive(Clone, Debug, PartialEq, Eq)]
+pub enum RecordReply {
+    /// The record's numbers in the order of document 01.
+    Found(Vec<u64>),
+    /// The record is not found yet.
+    Waiting {
+        /// The page waited for.
+        page: u32,
+        /// Rows found.
+        rows: u64,
+        /// Pages walked.
+        pages: u64,
+    },
+}
+
+/// The answer to the question for a string slot of record k.
+#[derive(Clone, Copy, Debug, PartialEq, Eq)]
+pub enum TextReply {
+    /// The string's text.
+    Found {
+        /// The text's absolute byte offset.
+        place: u64,
+        /// Its length in bytes.
+        len: u64,
+        /// Its encoding.
+        encoding: Encoding,
+    },
+    /// The record is not found yet.
+    Waiting {
+        /// The page waited for.
+        page: u32,
+        /// Rows found.
+        rows: u64,
+        /// Pages walked.
+        pages: u64,
+    },
+}
+
+pub(super) fn rows(source: &impl Source, table: u32, list: &mut [u32]) -> Result<Rows, Refusal> {
+    let table = asked_table(table)?;
+    let mut places = Vec::new();
+    let Walked {
+        rows,
+        pages,
+        waiting,
+    } = walk(source, table, |_, row| places.push(row.place))?;
+    list.get_mut(..places.len())
+        .ok_or(Refusal {
+            number: 17,
+            carries: rows,
+        })?
+        .copy_from_slice(&places);
+    Ok(match waiting {
+        None => Rows::Full { rows, pages },
+        Some(page) => Rows::Waiting { page, rows, pages },
+    })
+}
+
+pub(super) fn record(source: &impl Source, table: u32, k: u64) -> Result<RecordReply, Refusal> {
+    let table = asked_table(table)?;
+    Ok(match search(source, table, k, |row| Some(row.numbers()))? {
+        Search::Found(numbers) => RecordReply::Found(numbers),
+        Search::Waiting { page, rows, pages } => RecordReply::Waiting { page, rows, pages },
+    })
+}
+
+pub(super) fn text(
+    source: &impl Source,
+    table: u32,
+    k: u64,
+    slot: u64,
+) -> Result<TextReply, Refusal> {
+    let table = asked_table(table)?;
+    if slot >= table.slots() {
+        return Err(Refusal::plain(19));
+    }
+    Ok(match search(source, table, k, |row| row.text(slot))? {
+        Search::Found(Text {
+            place,
+            len,
+            encoding,
+        }) => TextReply::Found {
+            place,
+            len,
+            encoding,
+        },
+        Search::Waiting { page, rows, pages } => TextReply::Waiting { page, rows, pages },
+    })
+}
+
+/// Rule 8.
+fn asked_table(number: u32) -> Result<Table, Refusal> {
+    Table::of_type(number).ok_or(Refusal::plain(8))
+}
+
+enum Search<T> {
+    Found(T),
+    Waiting { page: u32, rows: u64, pages: u64 },
+}
+
+/// "If k is found it answers, also when the walk is Waiting; else Waiting, or 18."
+fn search<T>(
+    source: &impl Source,
+    table: Table,
+    k: u64,
+    read: impl Fn(&Row) -> Option<T>,
+) -> Result<Search<T>, Refusal> {
+    let mut found = None;
+    let Walked {
+        rows,
+        pages,
+        waiting,
+    } = walk(source, table, |number, row| {
+        if number == k {
+            found = read(row);
+        }
+    })?;
+    match (found, waiting) {
+        (Some(found), _) => Ok(Search::Found(found)),
+        (None, Some(page)) => Ok(Search::Waiting { page, rows, pages }),
+        (None, None) => Err(Refusal::plain(18)),
+    }
+}

@@ -1,0 +1,118 @@
+//! Document 01, "Row index": the table of fixed parts and strings, and the
+//! numbers of a record.
+
+use super::bytes::{u16_at, u32_at};
+use super::string::{read_string, Encoding};
+use super::Table;
+
+/// A present row that fits and whose strings are well-formed.
+pub(super) struct Row<'a> {
+    table: Table,
+    /// The row's absolute byte offset.
+    pub place: u32,
+    strings: Strings,
+    /// From the row's start to the index.
+    bytes: &'a [u8],
+}
+
+/// A string's text in the file.
+pub(super) struct Text {
+    pub place: u64,
+    pub len: u64,
+    pub encoding: Encoding,
+}
+
+/// The column "Strings".
+#[derive(Clone, Copy)]
+enum Strings {
+    None,
+    /// One string, at this byte of the row.
+    At(usize),
+    /// One string; its one-byte offset is here.
+    ByteOffset(usize),
+    /// Two-byte offsets, one for each slot, the first of them here.
+    Offsets(usize),
+}
+
+impl<'a> Row<'a> {
+    /// The row at `place` whose bytes up to the index are `bytes`, or the
+    /// number of the rule it breaks.
+    pub fn read(table: Table, place: u32, bytes: &'a [u8]) -> Result<Self, u8> {
+        let (fixed, strings) = layout(table, bytes).ok_or(14)?;
+        if fixed > bytes.len() {
+            return Err(14);
+        }
+        let row = Row {
+            table,
+            place,
+            strings,
+            bytes,
+        };
+        if (0..table.slots()).all(|slot| row.text(slot).is_some()) {
+            Ok(row)
+        } else {
+            Err(15)
+        }
+    }
+
+    /// The text of a string slot.
+    pub fn text(&self, slot: u64) -> Option<Text> {
+        let offset = match self.strings {
+            Strings::None => return None,
+            Strings::At(at) => at,
+            Strings::ByteOffset(at) => usize::from(self.bytes[at]),
+            Strings::Offsets(at) => usize::from(u16_at(self.bytes, at + 2 * slot as usize)),
+        };
+        let text = read_string(self.bytes.get(offset..)?)?;
+        Some(Text {
+            place: u64::from(self.place) + (offset + text.start) as u64,
+            len: text.len as u64,
+            encoding: text.encoding,
+        })
+    }
+
+    /// The record's numbers in the order of document 01.
+    pub fn numbers(&self) -> Vec<u64> {
+        let four = |at: usize| u64::from(u32_at(self.bytes, at));
+        let two = |at: usize| u64::from(u16_at(self.bytes, at));
+        let one = |at: usize| u64::from(self.bytes[at]);
+        match self.table {
+            Table::Genres | Table::Labels | Table::Keys | Table::Artwork => vec![four(0x00)],
+            Table::Artists => vec![four(0x04)],
+            Table::Albums => vec![four(0x08), four(0x0c)],
+            Table::Colors => vec![two(0x05)],
+            Table::PlaylistTree => [0x00, 0x08, 0x0c, 0x10].map(four).into(),
+            Table::PlaylistEntries => [0x00, 0x04, 0x08].map(four).into(),
+            Table::Tracks => [0x08, 0x0c, 0x10, 0x1c]
+                .into_iter()
+                .chain((0x20..=0x48).step_by(4))
+                .map(four)
+                .chain([0x4c, 0x4e, 0x50, 0x52, 0x54].map(two))
+                .chain([0x58, 0x59].map(one))
+                .collect(),
+        }
+    }
+}
+
+/// The length of the fixed part, and the strings.
+fn layout(table: Table, bytes: &[u8]) -> Option<(usize, Strings)> {
+    Some(match table {
+        Table::Tracks => (0x88, Strings::Offsets(0x5e)),
+        Table::Genres | Table::Labels | Table::Artwork => (0x04, Strings::At(0x04)),
+        Table::Artists => return artist_layout(bytes),
+        Table::Albums => (0x16, Strings::ByteOffset(0x15)),
+        Table::Keys | Table::Colors => (0x08, Strings::At(0x08)),
+        Table::PlaylistTree => (0x14, Strings::At(0x14)),
+        Table::PlaylistEntries => (0x0c, Strings::None),
+    })
+}
+
+/// "An artist row is first tested for `0a` bytes."
+fn artist_layout(bytes: &[u8]) -> Option<(usize, Strings)> {
+    let near = bytes.get(..0x0a)?;
+    match u16_at(near, 0x00) {
+        0x0060 => Some((0x0a, Strings::ByteOffset(0x09))),
+        0x0064 => Some((0x0c, Strings::Offsets(0x0a))),
+        _ => None,
+    }
+}

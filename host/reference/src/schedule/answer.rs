@@ -1,0 +1,80 @@
+//! Answers, printed as the replay paper says.
+
+use std::fmt;
+
+use crate::model::{Delivered, Encoding, RecordReply, Refusal, Rows, TextReply};
+
+/// The answer to a call, and its list if it had one.
+#[derive(Clone, Debug, PartialEq, Eq)]
+pub struct Answer {
+    /// What the call answered.
+    pub reply: Result<Reply, Refusal>,
+    /// The list of the call after it; empty if the call had none.
+    pub list: Vec<u32>,
+}
+
+/// A good answer to any call.
+///
+/// ```
+/// use sarvoltig_reference::model::RecordReply;
+/// use sarvoltig_reference::schedule::Reply;
+///
+/// let reply = Reply::Record(3, RecordReply::Found(vec![5, 7]));
+/// assert_eq!(reply.to_string(), "record 3 5,7");
+/// ```
+#[derive(Clone, Debug, PartialEq, Eq)]
+pub enum Reply {
+    /// To an opening: B.
+    Open(u64),
+    /// To a delivery.
+    Delivered(Delivered),
+    /// To the question for all rows.
+    Rows(Rows),
+    /// To the question for a record, with the type asked.
+    Record(u8, RecordReply),
+    /// To the question for a string.
+    Text(TextReply),
+}
+
+impl fmt::Display for Answer {
+    fn fmt(&self, f: &mut fmt::Formatter<'_>) -> fmt::Result {
+        match &self.reply {
+            Ok(reply) => reply.fmt(f),
+            Err(Refusal { number, carries }) => write!(f, "refused {number} {carries} 0"),
+        }
+    }
+}
+
+impl fmt::Display for Reply {
+    fn fmt(&self, f: &mut fmt::Formatter<'_>) -> fmt::Result {
+        match self {
+            Reply::Open(blocks) => write!(f, "open {blocks}"),
+            Reply::Delivered(Delivered::New(held)) => write!(f, "new {held}"),
+            Reply::Delivered(Delivered::Same(held)) => write!(f, "same {held}"),
+            Reply::Rows(Rows::Full { rows, pages }) => {
+                write!(f, "done rows {rows} pages {pages}")
+            }
+            Reply::Record(table, RecordReply::Found(numbers)) => {
+                let numbers: Vec<String> = numbers.iter().map(u64::to_string).collect();
+                write!(f, "record {table} {}", numbers.join(","))
+            }
+            Reply::Text(TextReply::Found {
+                place,
+                len,
+                encoding,
+            }) => write!(f, "text {place} {len} {}", encoding_name(*encoding)),
+            Reply::Rows(Rows::Waiting { page, rows, pages })
+            | Reply::Record(_, RecordReply::Waiting { page, rows, pages })
+            | Reply::Text(TextReply::Waiting { page, rows, pages }) => {
+                write!(f, "wait page {page} rows {rows} pages {pages}")
+            }
+        }
+    }
+}
+
+fn encoding_name(encoding: Encoding) -> &'static str {
+    match encoding {
+        Encoding::Ascii => "ascii",
+        Encoding::Utf16Le => "utf-16le",
+    }
+}

@@ -1,0 +1,113 @@
+//! Calls as lines of text.
+
+use std::fmt::Write;
+use std::str::FromStr;
+
+use super::Call;
+
+/// FETCH "means nothing before request A11".
+const FETCH: u64 = 0;
+
+impl Call {
+    /// The call's line, without its end.
+    ///
+    /// ```
+    /// use sarvoltig_reference::schedule::Call;
+    ///
+    /// assert_eq!(Call::Open { len: 1536 }.to_line(), "open 1536 0");
+    /// ```
+    pub fn to_line(&self) -> String {
+        match self {
+            Call::Lend { image, words } => format!("lend {image} {words}"),
+            Call::Word { i, value } => format!("word {i} {value}"),
+            Call::Open { len } => format!("open {len} {FETCH}"),
+            Call::Deliver { block, piece } => format!("deliver {block} {FETCH} {}", hex(piece)),
+            Call::Rows { table, room } => format!("rows {table} {room}"),
+            Call::Record { table, k } => format!("record {table} {k}"),
+            Call::Text { table, k, slot } => format!("string {table} {k} {slot}"),
+        }
+    }
+
+    /// The call of a line, if the line is one.
+    ///
+    /// ```
+    /// use sarvoltig_reference::schedule::Call;
+    ///
+    /// let call = Call::Text { table: 0, k: 12, slot: 17 };
+    /// assert_eq!(Call::parse_line("string 0 12 17"), Some(call));
+    /// assert_eq!(Call::parse_line("string 256 12 17"), None);
+    /// assert_eq!(Call::parse_line("string 0  12 17"), None);
+    /// ```
+    pub fn parse_line(line: &str) -> Option<Call> {
+        let words: Vec<&str> = line.split(' ').collect();
+        Some(match words[..] {
+            ["lend", image, words] => Call::Lend {
+                image: number(image)?,
+                words: number(words)?,
+            },
+            ["word", i, value] => Call::Word {
+                i: number(i)?,
+                value: number(value)?,
+            },
+            ["open", len, fetch] => {
+                number::<u64>(fetch)?;
+                Call::Open { len: number(len)? }
+            }
+            ["deliver", block, fetch, piece] => {
+                number::<u64>(fetch)?;
+                Call::Deliver {
+                    block: number(block)?,
+                    piece: bytes(piece)?,
+                }
+            }
+            ["rows", table, room] => Call::Rows {
+                table: number(table)?,
+                room: number(room)?,
+            },
+            ["record", table, k] => Call::Record {
+                table: number(table)?,
+                k: number(k)?,
+            },
+            ["string", table, k, slot] => Call::Text {
+                table: number(table)?,
+                k: number(k)?,
+                slot: number(slot)?,
+            },
+            _ => return None,
+        })
+    }
+}
+
+/// A decimal number without a sign.
+fn number<T: FromStr>(word: &str) -> Option<T> {
+    word.bytes().all(|b| b.is_ascii_digit()).then_some(())?;
+    word.parse().ok()
+}
+
+fn hex(bytes: &[u8]) -> String {
+    if bytes.is_empty() {
+        return "-".to_string();
+    }
+    bytes.iter().fold(String::new(), |mut word, byte| {
+        let _ = write!(word, "{byte:02x}");
+        word
+    })
+}
+
+fn bytes(word: &str) -> Option<Vec<u8>> {
+    if word == "-" {
+        return Some(Vec::new());
+    }
+    let digits: Option<Vec<u8>> = word.chars().map(hex_digit).collect();
+    let digits = digits.filter(|digits| digits.len() % 2 == 0 && !digits.is_empty())?;
+    Some(
+        digits
+            .chunks(2)
+            .map(|pair| pair[0] << 4 | pair[1])
+            .collect(),
+    )
+}
+
+fn hex_digit(digit: char) -> Option<u8> {
+    digit.to_digit(16).map(|value| value as u8)
+}

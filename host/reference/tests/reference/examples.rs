@@ -1,0 +1,387 @@
+//! The examples of document 01, "Near the edges", and edges of single rules.
+
+use sarvoltig_reference::model::{
+    entries, index_size, read_string, Encoding, RecordReply, Refusal, Rows, Session, StringText,
+    TextReply,
+};
+
+use crate::{opened, whole};
+
+fn refused<T>(number: u8, carries: u64) -> Result<T, Refusal> {
+    Err(Refusal { number, carries })
+}
+
+/// A file of two pages of 512 bytes; page 1 is the only page of table `table`.
+fn one_page(table: u8, heap: &[u8], num_rows_small: u8, index: &[u8]) -> Vec<u8> {
+    let mut file = vec![0; 1024];
+    file[0x05] = 2;
+    file[0x08] = 1;
+    file[0x1c] = table;
+    file[0x1c + 0x08] = 1;
+    file[0x1c + 0x0c] = 1;
+    file[512 + 0x04] = 1;
+    file[512 + 0x08] = table;
+    file[512 + 0x18] = num_rows_small;
+    file[512 + 0x28..][..heap.len()].copy_from_slice(heap);
+    file[1024 - index.len()..].copy_from_slice(index);
+    file
+}
+
+/// A genre row at the front of the heap whose name is this string.
+fn one_genre(string: &[u8]) -> Session {
+    one_row(1, &[&[7, 0, 0, 0], string].concat(), 0)
+}
+
+#[test]
+fn c1_to_c3_lengths() {
+    let mut session = Session::new(vec![0; 512], vec![0; 1]);
+    assert_eq!(session.open(0), refused(1, 0));
+    assert_eq!(session.open(512), Ok(1));
+    assert_eq!(session.open(268_435_968), refused(1, 0));
+    assert_eq!(session.open(1000), refused(1, 0));
+    assert_eq!(session.open(268_435_456), refused(2, 0));
+    assert_eq!(session.file_len(), 512);
+}
+
+#[test]
+fn c4_index_sizes() {
+    assert_eq!([0, 1, 16, 17].map(index_size), [0, 6, 36, 42]);
+}
+
+#[test]
+fn c5_and_c6_entries_of_a_page_of_512() {
+    assert_eq!([208, 209].map(index_size), [468, 474]);
+    let asked = |entries| whole(&one_page(1, &[], entries, &[])).rows(1u8, &mut []);
+    assert_eq!(asked(208), Ok(Rows::Full { rows: 0, pages: 1 }));
+    assert_eq!(asked(209), refused(13, 1));
+}
+
+/// 436 entries need 984 bytes, all that a page of 1,024 has behind its header.
+#[test]
+fn an_index_may_fill_a_page() {
+    let asked = |num_rows_large: u16| {
+        let mut file = vec![0; 2048];
+        file[..512].copy_from_slice(&one_page(1, &[], 0, &[])[..512]);
+        file[0x05] = 4;
+        file[1024 + 0x04] = 1;
+        file[1024 + 0x08] = 1;
+        file[1024 + 0x22..][..2].copy_from_slice(&num_rows_large.to_le_bytes());
+        whole(&file).rows(1u8, &mut [])
+    };
+    assert_eq!(asked(436), Ok(Rows::Full { rows: 0, pages: 1 }));
+    assert_eq!(asked(437), refused(13, 1));
+}
+
+#[test]
+fn c7_and_c8_counts() {
+    assert_eq!([5, 3, 0x1fff].map(|large| entries(5, large)), [5, 5, 5]);
+    assert_eq!(entries(5, 300), 300);
+}
+
+#[test]
+fn c9_to_c12_and_three_further_strings() {
+    let ascii = |start, len| {
+        Some(StringText {
+            start,
+            len,
+            encoding: Encoding::Ascii,
+        })
+    };
+    let examples: [(&[u8], Option<StringText>); 6] = [
+        (&[0x03], ascii(1, 0)),
+        (&[0x01], None),
+        (&[0x09, 0x41, 0x42, 0x43], ascii(1, 3)),
+        (&[0x90, 0x05, 0x00, 0x00, 0x41], None),
+        (&[0x40, 0x06, 0x00, 0x00, 0x41, 0x42], ascii(4, 2)),
+        (&[0x40, 0x03, 0x00, 0x00], None),
+    ];
+    for (bytes, text) in examples {
+        assert_eq!(read_string(bytes), text, "{bytes:02x?}");
+        let reply = match text {
+            Some(text) => Ok(TextReply::Found {
+                place: (512 + 0x28 + 4 + text.start) as u64,
+                len: text.len as u64,
+                encoding: text.encoding,
+            }),
+            None => refused(15, 1),
+        };
+        assert_eq!(one_genre(bytes).text(1u8, 0, 0), reply, "{bytes:02x?}");
+    }
+}
+
+#[test]
+fn a_file_of_32768_has_one_map_word_and_no_spare_bit() {
+    let mut session = Session::new(vec![0; 32_768], vec![0; 1]);
+    assert_eq!(session.open(32_768), Ok(64));
+    session.write_word(0, u64::MAX);
+    assert_eq!(session.rows(1u8, &mut []), refused(9, 0));
+    assert_eq!(session.open(32_256), Ok(63));
+    session.write_word(0, 1 << 63);
+    assert_eq!(session.rows(1u8, &mut []), refused(4, 0));
+}
+
+#[test]
+fn strings_end_at_or_before_the_index() {
+    assert!(read_string(b"\x05A").is_some());
+    assert!(read_string(b"\x07A").is_none());
+    assert!(read_string(b"\x90\x06\x00\xffA\x00").is_some());
+    assert!(read_string(b"\x90\x06\x00\xffA").is_none());
+    assert!(read_string(b"\x40\x04\x00\x00").is_some());
+    assert!(read_string(b"\x40\x04\x00").is_none());
+    assert!(read_string(b"\x20AAAA").is_none());
+    assert!(read_string(b"").is_none());
+}
+
+#[test]
+fn the_first_byte_decides() {
+    for kind in 0..=0xff {
+        let mut bytes = [0; 200];
+        bytes[..2].copy_from_slice(&[kind, 6]);
+        let text = read_string(&bytes).map(|text| (text.start, text.len, text.encoding));
+        let expected = match kind {
+            0x01 => None,
+            0x40 => Some((4, 2, Encoding::Ascii)),
+            0x90 => Some((4, 2, Encoding::Utf16Le)),
+            odd if odd % 2 == 1 => Some((1, usize::from(odd / 2) - 1, Encoding::Ascii)),
+            _ => None,
+        };
+        assert_eq!(text, expected, "{kind:02x}");
+    }
+}
+
+/// The length of the heap of `one_page` with one entry.
+const HEAP: usize = 466;
+
+fn one_row(table: u8, heap: &[u8], offset: u16) -> Session {
+    let [low, high] = offset.to_le_bytes();
+    whole(&one_page(table, heap, 1, &[low, high, 1, 0, 0, 0]))
+}
+
+/// A row whose first byte is an empty string and whose other bytes are zero: so
+/// the string offsets of tracks and albums lead to that string.
+#[test]
+fn fixed_parts_end_at_or_before_the_index() {
+    let fits = Ok(Rows::Full { rows: 1, pages: 1 });
+    let string_outside = refused(15, 1);
+    for (table, fixed, at_index) in [
+        (0, 0x88, fits),
+        (1, 0x04, string_outside),
+        (3, 0x16, fits),
+        (4, 0x04, string_outside),
+        (5, 0x08, string_outside),
+        (6, 0x08, string_outside),
+        (7, 0x14, string_outside),
+        (8, 0x0c, fits),
+        (13, 0x04, string_outside),
+    ] {
+        let asked = |start: usize| {
+            let heap = [vec![0; start], vec![0x03], vec![0; HEAP - start - 1]].concat();
+            one_row(table, &heap, start as u16).rows(table, &mut [0])
+        };
+        assert_eq!(asked(HEAP - fixed), at_index, "{table}");
+        assert_eq!(asked(HEAP - fixed + 1), refused(14, 1), "{table}");
+    }
+    assert_eq!(one_row(8, &[], 0xffff).rows(8u8, &mut [0]), refused(14, 1));
+}
+
+#[test]
+fn each_string_of_a_track_is_checked() {
+    for slot in 0..21 {
+        let mut heap = [0; HEAP];
+        heap[0] = 0x03;
+        assert!(one_row(0, &heap, 0).record(0u8, 0).is_ok());
+        heap[0x5e + 2 * slot] = 1;
+        assert_eq!(one_row(0, &heap, 0).record(0u8, 0), refused(15, 1));
+    }
+}
+
+#[test]
+fn artist_subtypes() {
+    let artist = |row: &[u8], offset: u16| {
+        let heap = [&vec![0; usize::from(offset)], row].concat();
+        one_row(2, &heap, offset).record(2u8, 0)
+    };
+    let near = [0x60, 0, 0, 0, 9, 0, 0, 0, 0, 0x0a];
+    let far = [0x64, 0, 0, 0, 9, 0, 0, 0, 0, 0];
+    assert!(artist(&[&near[..], &[0x03]].concat(), 455).is_ok());
+    assert_eq!(artist(&near, 456), refused(15, 1));
+    assert!(artist(&[&far[..], &[0x0c, 0, 0x03]].concat(), 453).is_ok());
+    assert_eq!(
+        artist(&[&far[..], &[0x0c, 0]].concat(), 454),
+        refused(15, 1)
+    );
+    assert_eq!(artist(&far, 455), refused(14, 1));
+    assert_eq!(artist(&[0x60], 457), refused(14, 1));
+    assert_eq!(
+        artist(&[0x61, 0, 0, 0, 0, 0, 0, 0, 0, 0, 0, 0], 0),
+        refused(14, 1)
+    );
+}
+
+/// The first fault in the order of the index answers, and a row's strings
+/// come before the next row.
+#[test]
+fn rows_are_checked_one_after_another() {
+    let heap = [7, 0, 0, 0, 0x01];
+    let asked = |first: [u8; 2], second: [u8; 2]| {
+        let index = [&second[..], &first, &[3, 0, 0, 0]].concat();
+        whole(&one_page(1, &heap, 2, &index)).rows(1u8, &mut [])
+    };
+    assert_eq!(asked([0, 0], [0xff, 0xff]), refused(15, 1));
+    assert_eq!(asked([0xff, 0xff], [0, 0]), refused(14, 1));
+}
+
+#[test]
+fn refusals_come_in_the_order_of_document_01() {
+    let mut session = Session::new(vec![0; 100], vec![]);
+    assert_eq!(session.deliver(9, &[]), refused(1, 0));
+    session.replace_buffers(vec![0; 1024], vec![0; 1]);
+    assert_eq!(session.open(1024), Ok(2));
+    session.replace_buffers(vec![0; 100], vec![]);
+    assert_eq!(session.text(99u8, 0, 99), refused(2, 0));
+    session.replace_buffers(vec![0; 1024], vec![]);
+    assert_eq!(session.text(99u8, 0, 99), refused(3, 0));
+    session.replace_buffers(vec![0; 1024], vec![4]);
+    assert_eq!(session.text(99u8, 0, 99), refused(4, 0));
+    session.replace_buffers(vec![0; 1024], vec![1]);
+    assert_eq!(session.text(99u8, 0, 99), refused(8, 0));
+    assert_eq!(session.text(99u32, 0, 99), refused(8, 0));
+    assert_eq!(session.text(8u8, 0, 0), refused(19, 0));
+    assert_eq!(session.text(0u8, 0, 21), refused(19, 0));
+    assert_eq!(session.text(0u8, 0, 20), refused(9, 0));
+    assert_eq!(session.deliver(2, &[]), refused(5, 0));
+    assert_eq!(session.deliver(0, &[]), refused(6, 0));
+    assert_eq!(session.deliver(0, &[9; 512]), refused(7, 0));
+}
+
+#[test]
+fn a_record_answers_behind_a_list_that_is_too_short() {
+    let session = one_genre(&[0x03]);
+    assert_eq!(session.rows(1u8, &mut []), refused(17, 1));
+    assert!(session.record(1u8, 0).is_ok());
+    assert_eq!(session.record(1u8, 1), refused(18, 0));
+}
+
+/// Whether a question about a file whose first block is this gets refusal 9.
+fn header_broken(file_len: usize, edit: impl FnOnce(&mut [u8])) -> bool {
+    let mut file = vec![0; file_len];
+    file[0x05] = 2;
+    file[0x08] = 1;
+    edit(&mut file);
+    match whole(&file).rows(1u8, &mut []) {
+        Err(refusal) => refusal.number == 9,
+        Ok(_) => false,
+    }
+}
+
+#[test]
+fn file_headers() {
+    assert!(!header_broken(1024, |_| {}));
+    for byte in 0..4 {
+        assert!(header_broken(1024, |file| file[byte] = 1));
+    }
+    for (file_len, len_page, broken) in [
+        (1024, 0, true),
+        (1024, 256, true),
+        (1024, 768, true),
+        (1536, 768, true),
+        (1024, 1024, false),
+        (1536, 1024, true),
+        (65_536, 32_768, false),
+        (33_280, 33_280, true),
+        (65_536, 65_536, true),
+    ] {
+        let edit = |file: &mut [u8]| file[4..8].copy_from_slice(&u32::to_le_bytes(len_page));
+        assert_eq!(
+            header_broken(file_len, edit),
+            broken,
+            "{file_len} {len_page}"
+        );
+    }
+    let pointers = |num_tables: u8| {
+        move |file: &mut [u8]| {
+            file[0x08] = num_tables;
+            (0..30).for_each(|number| file[0x1c + 16 * number] = number as u8);
+        }
+    };
+    assert_eq!(
+        [0, 1, 30, 31].map(|n| header_broken(1024, pointers(n))),
+        [true, false, false, true]
+    );
+    let same_types = |file: &mut [u8]| {
+        pointers(30)(file);
+        file[0x1c + 16 * 29] = 28;
+    };
+    assert!(header_broken(1024, same_types));
+}
+
+#[test]
+fn links_are_from_1_to_p_minus_1() {
+    let asked = |first_page: u8, last_page: u8| {
+        let mut file = one_page(1, &[], 0, &[]);
+        file[0x1c + 0x08] = first_page;
+        file[0x1c + 0x0c] = last_page;
+        whole(&file).rows(1u8, &mut [])
+    };
+    assert_eq!(asked(1, 1), Ok(Rows::Full { rows: 0, pages: 1 }));
+    for (first_page, last_page) in [(0, 1), (2, 1), (1, 0), (1, 2)] {
+        assert_eq!(asked(first_page, last_page), refused(11, 0));
+    }
+}
+
+#[test]
+fn page_headers_agree() {
+    for at in (0x04..0x0c).map(|field| 512 + field) {
+        let mut file = one_page(1, &[], 0, &[]);
+        file[at] ^= 0x80;
+        assert_eq!(whole(&file).rows(1u8, &mut []), refused(12, 1));
+    }
+}
+
+/// Three pages; the chain of table 1 is page 1 and what `next_page` makes of it.
+#[test]
+fn next_pages() {
+    let asked = |next_page: u8, second_type: u8| {
+        let mut file = one_page(1, &[], 0, &[]);
+        file.resize(1536, 0);
+        file[0x1c + 0x0c] = 2;
+        file[512 + 0x0c] = next_page;
+        file[1024 + 0x04] = 2;
+        file[1024 + 0x08] = second_type;
+        whole(&file).rows(1u8, &mut [])
+    };
+    assert_eq!(asked(2, 1), Ok(Rows::Full { rows: 0, pages: 2 }));
+    assert_eq!(asked(0, 1), refused(11, 1));
+    assert_eq!(asked(3, 1), refused(11, 1));
+    assert_eq!(asked(1, 1), refused(16, 0));
+    assert_eq!(asked(2, 2), refused(12, 2));
+}
+
+/// The chain is pages 1 and 2; page 1 has one row and page 2 is not held.
+#[test]
+fn a_walk_that_waits_shows_the_rows_found() {
+    let mut file = one_page(8, &[], 1, &[0, 0, 1, 0, 0, 0]);
+    file.resize(1536, 0);
+    file[0x1c + 0x0c] = 2;
+    file[512 + 0x0c] = 2;
+    let mut session = opened(&file);
+    for block in 0..2 {
+        let piece = &file[512 * block..][..512];
+        session
+            .deliver(block as u64, piece)
+            .expect("the block is new");
+    }
+    let mut list = [9; 2];
+    assert_eq!(session.rows(8u8, &mut list[..0]), refused(17, 1));
+    let (page, rows, pages) = (2, 1, 1);
+    assert_eq!(
+        session.rows(8u8, &mut list),
+        Ok(Rows::Waiting { page, rows, pages })
+    );
+    assert_eq!(list, [512 + 0x28, 9]);
+    assert_eq!(session.record(8u8, 0), Ok(RecordReply::Found(vec![0; 3])));
+    assert_eq!(
+        session.record(8u8, 1),
+        Ok(RecordReply::Waiting { page, rows, pages })
+    );
+}

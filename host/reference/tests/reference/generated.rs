@@ -1,0 +1,210 @@
+//! Generated exports: what they say is there is found, and nothing else counts.
+
+use sarvoltig_reference::generate::{
+    big, demo, export, Expected, ExpectedRow, ExpectedTable, Export, Options,
+};
+use sarvoltig_reference::model::{RecordReply, Refusal, Rows, Session, Table, TextReply};
+use sarvoltig_reference::rng::Rng;
+
+use crate::{opened, whole};
+
+/// Asks for all rows, and for the records and strings that `asked` chooses.
+fn check_table(session: &Session, expected: &ExpectedTable, mut asked: impl FnMut() -> bool) {
+    let table = expected.table.number();
+    let mut list = vec![0; expected.rows.len()];
+    let full = Rows::Full {
+        rows: expected.rows.len() as u64,
+        pages: expected.pages,
+    };
+    assert_eq!(session.rows(table, &mut list), Ok(full));
+    for (k, row) in (0..).zip(&expected.rows) {
+        assert_eq!(list[k as usize], row.place);
+        if asked() {
+            let numbers = RecordReply::Found(row.numbers.clone());
+            assert_eq!(session.record(table, k), Ok(numbers));
+        }
+        for (slot, text) in (0..).zip(&row.texts) {
+            if asked() {
+                let found = TextReply::Found {
+                    place: text.place,
+                    len: text.bytes.len() as u64,
+                    encoding: text.encoding,
+                };
+                assert_eq!(session.text(table, k, slot), Ok(found));
+            }
+            let bytes = &session.image()[text.place as usize..][..text.bytes.len()];
+            assert_eq!(bytes, text.bytes);
+        }
+    }
+    let too_large = Err(Refusal {
+        number: 18,
+        carries: 0,
+    });
+    assert_eq!(session.record(table, expected.rows.len() as u64), too_large);
+}
+
+fn check(file: &[u8], expected: &Expected, rng: &mut Rng) {
+    let session = whole(file);
+    for table in &expected.tables {
+        check_table(&session, table, || rng.chance(1, 4));
+    }
+    let absent = |table: &Table| !expected.tables.iter().any(|other| other.table == *table);
+    for table in Table::ALL.into_iter().filter(absent) {
+        let no_pointer = Refusal {
+            number: 10,
+            carries: 0,
+        };
+        assert_eq!(session.rows(table.number(), &mut []), Err(no_pointer));
+    }
+}
+
+/// Changes bytes that no answer may depend on.
+fn change_free_bytes(export: &Export, rng: &mut Rng) -> Vec<u8> {
+    let mut file = export.bytes.clone();
+    for range in &export.expected.free {
+        let bytes = rng.bytes(range.len());
+        file[range.clone()].copy_from_slice(&bytes);
+    }
+    file
+}
+
+#[test]
+fn random_exports_are_read_as_generated_whatever_their_free_bytes() {
+    for seed in 0..600 {
+        let rng = &mut Rng::new(seed);
+        let export = export(&Options::random(rng));
+        check(&export.bytes, &export.expected, rng);
+        check(&change_free_bytes(&export, rng), &export.expected, rng);
+    }
+}
+
+#[test]
+fn every_page_length_is_read() {
+    for blocks in 1..=64 {
+        let export = export(&Options {
+            seed: blocks,
+            len_page: 512 * blocks as u32,
+            rows: [Some(3); 10],
+            ..Options::default()
+        });
+        check(&export.bytes, &export.expected, &mut Rng::new(blocks));
+    }
+}
+
+/// Whether one of some random exports has a row of the table like this.
+fn some_row(table: Table, like: impl Fn(&[u8], &ExpectedRow) -> bool) -> bool {
+    (0..100)
+        .map(|seed| export(&Options::random(&mut Rng::new(seed))))
+        .any(|export| {
+            let tables = export.expected.tables.iter();
+            let mut rows = tables
+                .filter(|found| found.table == table)
+                .flat_map(|found| &found.rows);
+            rows.any(|row| like(&export.bytes, row))
+        })
+}
+
+#[test]
+fn generated_rows_are_of_every_kind() {
+    let place = |row: &ExpectedRow| row.place as usize;
+    let name_offset = |row: &ExpectedRow| row.texts[0].place as usize - place(row);
+    for subtype in [0x60, 0x64] {
+        assert!(some_row(Table::Artists, |file, row| file[place(row)] == subtype));
+    }
+    assert!(some_row(Table::Artists, |_, row| name_offset(row) > 0x100));
+    for head in [0x03, 0x40, 0x90] {
+        assert!(some_row(Table::Genres, |file, row| file[place(row) + 4] == head));
+    }
+    assert!(some_row(Table::Tracks, |_, row| name_offset(row) == 1));
+    assert!(some_row(Table::PlaylistEntries, |file, row| {
+        let page = place(row) - place(row) % len_page(file);
+        (0x01..0x1f).contains(&file[page + 0x23])
+    }));
+}
+
+fn len_page(file: &[u8]) -> usize {
+    usize::from(file[0x05]) << 8
+}
+
+#[test]
+fn generated_chains_are_long_and_out_of_order() {
+    let export = export(&Options {
+        len_page: 512,
+        rows: [Some(60); 10],
+        ..Options::default()
+    });
+    let tracks = &export.expected.tables[0];
+    assert!(tracks.pages > 20);
+    assert!(!tracks.rows.is_sorted_by_key(|row| row.place));
+}
+
+#[test]
+fn bytes_of_blocks_not_held_change_nothing() {
+    for seed in 0..60 {
+        let rng = &mut Rng::new(seed);
+        let export = export(&Options::random(rng));
+        let mut session = opened(&export.bytes);
+        for (block, piece) in (0..).zip(export.bytes.chunks(512)) {
+            if block == 0 || rng.chance(9, 10) {
+                session.deliver(block, piece).expect("each block is new");
+            }
+        }
+        let mut other = session.clone();
+        other.replace_buffers(
+            other_bytes_where_not_held(&session, rng),
+            session.map().to_vec(),
+        );
+        for table in Table::ALL.map(Table::number) {
+            let (mut list, mut other_list) = ([0; 6000], [0; 6000]);
+            assert_eq!(
+                session.rows(table, &mut list),
+                other.rows(table, &mut other_list)
+            );
+            assert_eq!(list, other_list);
+            for k in 0..5 {
+                assert_eq!(session.record(table, k), other.record(table, k));
+                assert_eq!(session.text(table, k, 0), other.text(table, k, 0));
+            }
+        }
+    }
+}
+
+fn other_bytes_where_not_held(session: &Session, rng: &mut Rng) -> Vec<u8> {
+    let mut image = session.image().to_vec();
+    for (block, piece) in image.chunks_mut(512).enumerate() {
+        if session.map()[block / 64] >> (block % 64) & 1 == 0 {
+            piece.copy_from_slice(&rng.bytes(512));
+        }
+    }
+    image
+}
+
+#[test]
+fn the_big_export_is_read_as_generated() {
+    let export = big();
+    let session = whole(&export.bytes);
+    let mut asked = 0;
+    for table in &export.expected.tables {
+        check_table(&session, table, || {
+            asked += 1;
+            asked % 2000 == 0
+        });
+    }
+    let strings: usize = export.expected.tables[0]
+        .rows
+        .iter()
+        .flat_map(|row| &row.texts)
+        .filter(|text| !text.bytes.is_empty())
+        .count();
+    assert_eq!(strings, 6 * 20_000);
+}
+
+#[test]
+fn the_demo_has_24_tracks_in_three_playlists_of_a_folder() {
+    let session = whole(&demo());
+    let rows = |table: Table| match session.rows(table.number(), &mut [0; 100]) {
+        Ok(Rows::Full { rows, .. }) => rows,
+        other => panic!("{table:?}: {other:?}"),
+    };
+    assert_eq!(Table::ALL.map(rows), [24, 5, 8, 6, 3, 6, 8, 4, 24, 6]);
+}

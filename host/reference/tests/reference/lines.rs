@@ -1,0 +1,110 @@
+//! Calls as lines, and their replay.
+
+use sarvoltig_reference::model::Session;
+use sarvoltig_reference::schedule::{random_run, replay, Call};
+
+use crate::desk::case_d;
+
+#[test]
+fn lines_are_read_as_written() {
+    for seed in 0..30 {
+        for call in random_run(seed) {
+            assert_eq!(Call::parse_line(&call.to_line()), Some(call));
+        }
+    }
+}
+
+#[test]
+fn other_lines_are_no_calls() {
+    let lines = [
+        "",
+        "lend 1",
+        "lend 1 2 3",
+        " lend 1 2",
+        "lend 1 2 ",
+        "lend  1 2",
+        "lend +1 2",
+        "lend -1 2",
+        "Lend 1 2",
+        "open 512",
+        "open 512 x",
+        "rows 256 1",
+        "rows 1 18446744073709551616",
+        "deliver 0 0",
+        "deliver 0 0 ",
+        "deliver 0 0 abc",
+        "deliver 0 0 ag",
+        "deliver 0 0 é",
+        "record 1 -",
+        "record 1 0\r",
+        "string 1 0",
+        "word 0",
+    ];
+    for line in lines {
+        assert_eq!(Call::parse_line(line), None, "{line}");
+    }
+}
+
+#[test]
+fn a_replay_prints_the_answers_of_the_calls() {
+    for seed in 0..20 {
+        let calls = random_run(seed);
+        let lines: String = calls.iter().map(|call| call.to_line() + "\n").collect();
+        let replayed = replay(&lines);
+        assert_eq!(replayed.status, 0);
+        let mut session = Session::new(Vec::new(), Vec::new());
+        let answers = calls.iter().filter_map(|call| call.make(&mut session));
+        let answers: Vec<String> = answers.map(|answer| answer.to_string()).collect();
+        let printed: Vec<&str> = replayed
+            .output
+            .lines()
+            .map(|line| line.rsplit_once(" lent ").expect("a CRC").0)
+            .collect();
+        assert_eq!(printed, answers);
+    }
+}
+
+/// The CRCs were computed by another program.
+const CASE_D_OUTPUT: &str = "\
+refused 1 0 0 lent 178581ff
+open 3 lent b9d2e835
+wait page 0 rows 0 pages 0 lent b69d8ea8
+new 1 lent 637014c9
+new 2 lent 14ec8d81
+wait page 1 rows 0 pages 0 lent 8b68084d
+same 2 lent 14ec8d81
+new 3 lent 919bea38
+done rows 1 pages 2 lent bfe930bf
+refused 17 1 0 lent 919bea38
+record 1 7 lent 919bea38
+text 1085 4 ascii lent 919bea38
+refused 6 0 0 lent 919bea38
+refused 4 0 0 lent e2887577
+";
+
+#[test]
+fn case_d_replays() {
+    let deliver = |block: u64| {
+        let piece = case_d()[512 * block as usize..][..512].to_vec();
+        Call::Deliver { block, piece }.to_line()
+    };
+    let input = [
+        "lend 1600 2",
+        "rows 1 2",
+        "open 1536 0",
+        "rows 1 2",
+        &deliver(2),
+        &deliver(0),
+        "rows 1 2",
+        &deliver(0),
+        &deliver(1),
+        "rows 1 2",
+        "rows 1 0",
+        "record 1 0",
+        "string 1 0 0",
+        "deliver 1 9 -",
+        "word 0 15",
+        "string 1 0 0",
+    ];
+    assert_eq!(replay(&input.join("\n")).output, CASE_D_OUTPUT);
+}

@@ -1,0 +1,27 @@
+//! The tests of the reference.
+
+mod desk;
+mod examples;
+mod generated;
+mod lines;
+mod refusals;
+mod runs;
+
+use sarvoltig_reference::model::{Session, BLOCK_SIZE};
+
+/// A session of a file with buffers that just fit, without blocks.
+fn opened(file: &[u8]) -> Session {
+    let blocks = file.len() / BLOCK_SIZE;
+    let mut session = Session::new(vec![0xa5; file.len()], vec![u64::MAX; blocks.div_ceil(64)]);
+    assert_eq!(session.open(file.len() as u64), Ok(blocks as u64));
+    session
+}
+
+/// A session that holds every block of a file.
+fn whole(file: &[u8]) -> Session {
+    let mut session = opened(file);
+    for (block, piece) in (0..).zip(file.chunks(BLOCK_SIZE)) {
+        session.deliver(block, piece).expect("each block is new");
+    }
+    session
+}

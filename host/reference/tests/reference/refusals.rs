@@ -1,0 +1,63 @@
+//! Generated runs reach every refusal, and refusals change nothing.
+
+use std::collections::BTreeSet;
+
+use sarvoltig_reference::model::{Delivered, Rows, Session, BLOCK_SIZE};
+use sarvoltig_reference::schedule::{random_run, Answer, Call, Reply};
+
+/// The blocks of the image and the words of the map that differ.
+fn differences(before: &Session, after: &Session) -> (Vec<u64>, Vec<u64>) {
+    let images = [before, after].map(|session| session.image().chunks(BLOCK_SIZE));
+    let maps = [before, after].map(|session| session.map().chunks(1));
+    (differing(images), differing(maps))
+}
+
+fn differing<T: PartialEq>([before, after]: [impl Iterator<Item = T>; 2]) -> Vec<u64> {
+    let pairs = (0..).zip(before.zip(after));
+    pairs
+        .filter(|(_, (before, after))| before != after)
+        .map(|(place, _)| place)
+        .collect()
+}
+
+/// What a call may write, by its answer.
+fn check_writes(before: &Session, after: &Session, call: &Call, answer: &Answer) {
+    let (blocks, words) = differences(before, after);
+    match (&answer.reply, call) {
+        (Ok(Reply::Open(count)), _) => {
+            assert!(blocks.is_empty());
+            assert!(words.iter().all(|word| *word < count.div_ceil(64)));
+        }
+        (Ok(Reply::Delivered(Delivered::New(_))), Call::Deliver { block, .. }) => {
+            assert!(blocks.iter().all(|changed| changed == block));
+            assert_eq!(words, [block / 64]);
+        }
+        _ => assert!(blocks.is_empty() && words.is_empty()),
+    }
+    let written = match answer.reply {
+        Ok(Reply::Rows(Rows::Full { rows, .. } | Rows::Waiting { rows, .. })) => rows as usize,
+        _ => 0,
+    };
+    assert!(answer.list[written..]
+        .iter()
+        .all(|place| *place == 0xeeee_eeee));
+    if !matches!(answer.reply, Ok(Reply::Open(_))) {
+        assert_eq!(before.file_len(), after.file_len());
+    }
+}
+
+#[test]
+fn every_refusal_is_reached_and_writes_nothing() {
+    let mut reached = BTreeSet::new();
+    for seed in 0..300 {
+        let mut session = Session::new(Vec::new(), Vec::new());
+        for call in random_run(seed) {
+            let before = session.clone();
+            if let Some(answer) = call.make(&mut session) {
+                check_writes(&before, &session, &call, &answer);
+                reached.extend(answer.reply.err().map(|refusal| refusal.number));
+            }
+        }
+    }
+    assert_eq!(reached, (1..=19).collect());
+}

@@ -1,0 +1,249 @@
+//! Document 01, "Runs": a session is checked against the book.
+
+use std::collections::HashMap;
+
+use sarvoltig_reference::model::{Book, Delivered, Refusal, Rows, Session, Table, BLOCK_SIZE};
+use sarvoltig_reference::rng::Rng;
+use sarvoltig_reference::schedule::{random_file, schedule, Answer, Call, Reply};
+
+/// The deliveries and questions of a schedule.
+fn run_calls(file: &[u8], rng: &mut Rng) -> Vec<Call> {
+    let mut calls = schedule(file, rng);
+    calls.retain(|call| {
+        !matches!(
+            call,
+            Call::Lend { .. } | Call::Word { .. } | Call::Open { .. }
+        )
+    });
+    calls
+}
+
+/// What the book says of a call, before the call is entered.
+fn answer_by_book(book: &Book, call: &Call) -> Option<Answer> {
+    let mut list = Vec::new();
+    let reply = match *call {
+        Call::Lend { .. } | Call::Word { .. } | Call::Open { .. } => return None,
+        Call::Deliver { block, ref piece } => delivered_by_book(book, block, piece),
+        Call::Rows { table, room } => {
+            list = vec![0xeeee_eeee; room];
+            book.rows(table, &mut list).map(Reply::Rows)
+        }
+        Call::Record { table, k } => book
+            .record(table, k)
+            .map(|reply| Reply::Record(table, reply)),
+        Call::Text { table, k, slot } => book.text(table, k, slot).map(Reply::Text),
+    };
+    Some(Answer { reply, list })
+}
+
+fn delivered_by_book(book: &Book, block: u64, piece: &[u8]) -> Result<Reply, Refusal> {
+    let mut after = book.clone();
+    after.deliver(block, piece);
+    let in_book = after.block(block as usize);
+    let number = match in_book {
+        Some(first) if first == piece && book.held_count() < after.held_count() => {
+            return Ok(Reply::Delivered(Delivered::New(after.held_count())));
+        }
+        Some(first) if first == piece => {
+            return Ok(Reply::Delivered(Delivered::Same(after.held_count())));
+        }
+        Some(_) if piece.len() == BLOCK_SIZE => 7,
+        _ => 6,
+    };
+    Err(Refusal { number, carries: 0 })
+}
+
+/// Random buffers, longer than the file needs by up to so many bytes and words.
+fn any_buffers(file: &[u8], rng: &mut Rng) -> (Vec<u8>, Vec<u64>) {
+    let words = (file.len() / BLOCK_SIZE).div_ceil(64) + rng.index(3);
+    let image = file.len() + rng.index(700);
+    (
+        rng.bytes(image),
+        (0..words).map(|_| rng.next_u64()).collect(),
+    )
+}
+
+/// The buffers at the end of a run, from the buffers before and the book.
+fn buffers_by_book(book: &Book, file_len: usize, image: &mut [u8], map: &mut [u64]) {
+    let blocks = file_len / BLOCK_SIZE;
+    map[..blocks.div_ceil(64)].fill(0);
+    for number in 0..blocks {
+        if let Some(block) = book.block(number) {
+            image[number * BLOCK_SIZE..][..BLOCK_SIZE].copy_from_slice(block);
+            map[number / 64] |= 1 << (number % 64);
+        }
+    }
+}
+
+#[test]
+fn each_answer_and_the_buffers_at_the_end_are_what_the_book_says() {
+    for seed in 0..300 {
+        let rng = &mut Rng::new(seed);
+        let file = random_file(rng);
+        let (mut image, mut map) = any_buffers(&file, rng);
+        let mut session = Session::new(image.clone(), map.clone());
+        session
+            .open(file.len() as u64)
+            .expect("the buffers are long enough");
+        let mut book = Book::open(file.len() as u64).expect("an export's length is allowed");
+        for call in run_calls(&file, rng) {
+            let mut expected = answer_by_book(&book, &call);
+            if let Call::Deliver { block, ref piece } = call {
+                if block >= (file.len() / BLOCK_SIZE) as u64 {
+                    expected = Some(refused_answer(5));
+                }
+                book.deliver(block, piece);
+            }
+            assert_eq!(call.make(&mut session), expected, "{}", call.to_line());
+        }
+        buffers_by_book(&book, file.len(), &mut image, &mut map);
+        assert_eq!(session.image(), image);
+        assert_eq!(session.map(), map);
+    }
+}
+
+fn refused_answer(number: u8) -> Answer {
+    Answer {
+        reply: Err(Refusal { number, carries: 0 }),
+        list: Vec::new(),
+    }
+}
+
+/// All rows, the first records and their strings, of every table.
+fn all_answers(session: &mut Session) -> Vec<Answer> {
+    let mut calls = Vec::new();
+    for table in Table::ALL.map(Table::number) {
+        calls.push(Call::Rows { table, room: 6000 });
+        for k in 0..4 {
+            calls.push(Call::Record { table, k });
+            calls.extend((0..3).map(|slot| Call::Text { table, k, slot }));
+        }
+    }
+    calls.iter().filter_map(|call| call.make(session)).collect()
+}
+
+/// A run with the deliveries that make this book, in another order.
+fn run_of_book(book: &Book, blocks: usize, rng: &mut Rng) -> Vec<Call> {
+    let mut numbers: Vec<usize> = (0..blocks).collect();
+    rng.shuffle(&mut numbers);
+    numbers
+        .into_iter()
+        .filter_map(|number| {
+            let piece = book.block(number)?.to_vec();
+            let block = number as u64;
+            Some(Call::Deliver { block, piece })
+        })
+        .collect()
+}
+
+#[test]
+fn two_runs_with_equal_books_end_alike() {
+    for seed in 1000..1200 {
+        let rng = &mut Rng::new(seed);
+        let file = random_file(rng);
+        let (image, map) = any_buffers(&file, rng);
+        let mut one = Session::new(image, map);
+        let mut other = one.clone();
+        let mut book = Book::open(file.len() as u64).expect("an export's length is allowed");
+        one.open(file.len() as u64)
+            .expect("the buffers are long enough");
+        for call in run_calls(&file, rng) {
+            call.make(&mut one);
+            if let Call::Deliver { block, piece } = &call {
+                book.deliver(*block, piece);
+            }
+        }
+        other
+            .open(file.len() as u64)
+            .expect("the buffers are long enough");
+        for call in run_of_book(&book, file.len() / BLOCK_SIZE, rng) {
+            call.make(&mut other);
+        }
+        assert_eq!(one.image(), other.image());
+        assert_eq!(one.map(), other.map());
+        assert_eq!(all_answers(&mut one), all_answers(&mut other));
+        if let Some(whole_file) = book.whole_file() {
+            assert_eq!(one.image()[..file.len()], whole_file);
+        }
+    }
+}
+
+/// Earlier answers of a run, with which later ones must agree.
+#[derive(Default)]
+struct Earlier {
+    shown: HashMap<u8, Vec<u32>>,
+    found: HashMap<(u8, u64, Option<u64>), Answer>,
+    faults: HashMap<u8, Refusal>,
+}
+
+impl Earlier {
+    fn check(&mut self, call: &Call, answer: &Answer) {
+        let (table, found) = match *call {
+            Call::Rows { table, .. } => (table, None),
+            Call::Record { table, k } => (table, Some((table, k, None))),
+            Call::Text { table, k, slot } => (table, Some((table, k, Some(slot)))),
+            _ => return,
+        };
+        self.check_fault(table, answer);
+        self.check_shown(table, answer);
+        let asks_again = matches!(&answer.reply, Ok(Reply::Record(..) | Reply::Text(_)));
+        if let (Some(question), true) = (found, asks_again) {
+            self.check_found(question, answer);
+        }
+    }
+
+    fn check_fault(&mut self, table: u8, answer: &Answer) {
+        let refusal = answer.reply.as_ref().err();
+        if let Some(fault) = self.faults.get(&table) {
+            let no_slot = refusal.is_some_and(|refusal| refusal.number == 19);
+            assert!(no_slot || refusal == Some(fault));
+        } else if let Some(fault) = refusal.filter(|refusal| (9..=16).contains(&refusal.number)) {
+            self.faults.insert(table, *fault);
+        }
+    }
+
+    fn check_shown(&mut self, table: u8, answer: &Answer) {
+        if let Ok(Reply::Rows(Rows::Full { rows, .. } | Rows::Waiting { rows, .. })) = answer.reply
+        {
+            let places = &answer.list[..rows as usize];
+            let shown = self.shown.entry(table).or_default();
+            assert!(places.starts_with(shown));
+            *shown = places.to_vec();
+        }
+    }
+
+    fn check_found(&mut self, question: (u8, u64, Option<u64>), answer: &Answer) {
+        match self.found.get(&question) {
+            Some(earlier) => assert_eq!(answer, earlier),
+            None if answer.to_string().starts_with("wait") => {}
+            None => {
+                self.found.insert(question, answer.clone());
+            }
+        }
+    }
+}
+
+#[test]
+fn later_answers_keep_to_earlier_ones() {
+    for seed in 2000..2200 {
+        let rng = &mut Rng::new(seed);
+        let file = random_file(rng);
+        let (image, map) = any_buffers(&file, rng);
+        let mut session = Session::new(image, map);
+        session
+            .open(file.len() as u64)
+            .expect("the buffers are long enough");
+        let mut earlier = Earlier::default();
+        for call in run_calls(&file, rng) {
+            if let Some(answer) = call.make(&mut session) {
+                earlier.check(&call, &answer);
+            }
+            for table in Table::ALL.map(Table::number) {
+                let question = Call::Rows { table, room: 6000 };
+                if let Some(answer) = question.make(&mut session) {
+                    earlier.check(&question, &answer);
+                }
+            }
+        }
+    }
+}

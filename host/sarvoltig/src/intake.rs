@@ -1,0 +1,389 @@
+//! An intake over a caller's image and map: deliveries and questions.
+
+use crate::raw::{self, DONE, RESULT, SAME, WAITING};
+use crate::{Encoding, Record, Refusal, Table, Text};
+
+/// Bytes in a block.
+pub const BLOCK: usize = 512;
+
+/// The words of a map for a file of `len` bytes.
+///
+/// ```
+/// assert_eq!(sarvoltig::map_words(512), 1);
+/// assert_eq!(sarvoltig::map_words(32_768 + 512), 2);
+/// ```
+#[must_use]
+pub fn map_words(len: u64) -> usize {
+    len.div_ceil(BLOCK as u64).div_ceil(64) as usize
+}
+
+/// What a delivery did. Both carry the number of blocks held after it.
+#[derive(Clone, Copy, Debug, PartialEq, Eq, Hash)]
+pub enum Delivered {
+    /// The block was not held, and is now.
+    New(u64),
+    /// The block was held with the same bytes; nothing changed.
+    Same(u64),
+}
+
+impl Delivered {
+    /// The number of blocks held after the delivery.
+    #[must_use]
+    pub fn held(self) -> u64 {
+        match self {
+            Self::New(held) | Self::Same(held) => held,
+        }
+    }
+}
+
+/// Where the walk along a table's pages came to.
+#[derive(Clone, Copy, Debug, PartialEq, Eq, Hash)]
+pub enum Walk {
+    /// To its last page.
+    Full {
+        /// The rows found.
+        rows: u64,
+        /// The pages walked.
+        pages: u64,
+    },
+    /// To a page that is not wholly there.
+    Waiting {
+        /// That page, 0 for the directory.
+        page: u64,
+        /// The rows found before it.
+        rows: u64,
+        /// The pages walked before it.
+        pages: u64,
+    },
+}
+
+impl Walk {
+    /// The rows found.
+    #[must_use]
+    pub fn rows(self) -> u64 {
+        match self {
+            Self::Full { rows, .. } | Self::Waiting { rows, .. } => rows,
+        }
+    }
+
+    /// Whether the walk came to the table's last page.
+    #[must_use]
+    pub fn is_full(self) -> bool {
+        matches!(self, Self::Full { .. })
+    }
+}
+
+/// The answer about one row.
+#[derive(Clone, Copy, Debug, PartialEq, Eq, Hash)]
+pub enum Reply<T> {
+    /// The row is there.
+    Found(T),
+    /// The row was not found yet, and the walk waits.
+    Waiting {
+        /// The page that is not wholly there, 0 for the directory.
+        page: u64,
+        /// The rows found before it.
+        rows: u64,
+        /// The pages walked before it.
+        pages: u64,
+    },
+}
+
+impl<T> Reply<T> {
+    /// What was found, if it was.
+    pub fn found(self) -> Option<T> {
+        match self {
+            Self::Found(found) => Some(found),
+            Self::Waiting { .. } => None,
+        }
+    }
+}
+
+/// An intake: the file's length with the image and the map that the caller owns.
+///
+/// ```
+/// use sarvoltig::{Delivered, Intake, Table, Walk};
+///
+/// let mut image = vec![0; 1024];
+/// let mut map = vec![0; sarvoltig::map_words(1024)];
+/// let mut intake = Intake::open(&mut image, &mut map)?;
+/// assert_eq!(intake.deliver(1, &[7; 512])?, Delivered::New(1));
+/// assert_eq!(intake.deliver(1, &[7; 512])?, Delivered::Same(1));
+/// // block 0 has the directory, and is missing
+/// let rows = intake.rows(Table::Genres)?;
+/// assert_eq!(rows.walk(), Walk::Waiting { page: 0, rows: 0, pages: 0 });
+/// # Ok::<(), sarvoltig::Refusal>(())
+/// ```
+#[derive(Debug)]
+pub struct Intake<'a> {
+    len: u64,
+    image: &'a mut [u8],
+    map: &'a mut [u64],
+}
+
+impl<'a> Intake<'a> {
+    /// Opens an intake for a file as long as the image: clears the map's counted words.
+    ///
+    /// # Errors
+    /// Refusals 1 to 3.
+    pub fn open(image: &'a mut [u8], map: &'a mut [u64]) -> Result<Self, Refusal> {
+        Self::open_len(image.len() as u64, image, map)
+    }
+
+    /// Opens an intake for a file of `len` bytes in an image that may be longer.
+    ///
+    /// # Errors
+    /// Refusals 1 to 3.
+    pub fn open_len(len: u64, image: &'a mut [u8], map: &'a mut [u64]) -> Result<Self, Refusal> {
+        let mut result = [0; 1];
+        match raw::open(len, image, map, &mut result) {
+            DONE => Ok(Self { len, image, map }),
+            number => Err(Refusal::new(number, result[0])),
+        }
+    }
+
+    /// Takes up an intake that was opened before, with its file length and both buffers as they were left.
+    /// Any values are safe: each call tests them again (refusals 1 to 4).
+    #[must_use]
+    pub fn resume(len: u64, image: &'a mut [u8], map: &'a mut [u64]) -> Self {
+        Self { len, image, map }
+    }
+
+    /// The file's length.
+    #[must_use]
+    pub fn file_len(&self) -> u64 {
+        self.len
+    }
+
+    /// The number of blocks in the file.
+    #[must_use]
+    pub fn blocks(&self) -> u64 {
+        self.len / BLOCK as u64
+    }
+
+    /// Whether a block is held.
+    #[must_use]
+    pub fn holds(&self, block: u64) -> bool {
+        let word = usize::try_from(block / 64).ok();
+        let word = word.and_then(|w| self.map.get(w));
+        word.is_some_and(|w| (w >> (block % 64)) & 1 == 1)
+    }
+
+    /// The image.
+    #[must_use]
+    pub fn image(&self) -> &[u8] {
+        self.image
+    }
+
+    /// The map.
+    #[must_use]
+    pub fn map(&self) -> &[u64] {
+        self.map
+    }
+
+    /// Delivers a block. The first content of a block stays.
+    ///
+    /// # Errors
+    /// Refusals 1 to 7.
+    pub fn deliver(&mut self, block: u64, piece: &[u8]) -> Result<Delivered, Refusal> {
+        let mut result = [0; 1];
+        match raw::deliver(self.len, self.image, self.map, block, piece, &mut result) {
+            DONE => Ok(Delivered::New(result[0])),
+            SAME => Ok(Delivered::Same(result[0])),
+            number => Err(Refusal::new(number, result[0])),
+        }
+    }
+
+    /// Asks for all rows of a table: their places go to the front of the list.
+    ///
+    /// # Errors
+    /// Refusals 1 to 4, 8 to 16, and 17 where the list is too short.
+    pub fn rows_into(&self, table: Table, list: &mut [u32]) -> Result<Walk, Refusal> {
+        let mut result = [0; 3];
+        match raw::rows(
+            self.len,
+            self.image,
+            self.map,
+            table.number(),
+            list,
+            &mut result,
+        ) {
+            DONE => Ok(Walk::Full {
+                rows: result[0],
+                pages: result[1],
+            }),
+            WAITING => Ok(Walk::Waiting {
+                page: result[2],
+                rows: result[0],
+                pages: result[1],
+            }),
+            number => Err(Refusal::new(number, result[0])),
+        }
+    }
+
+    /// Asks for all rows of a table, with a list of its own.
+    ///
+    /// # Errors
+    /// Refusals 1 to 4 and 8 to 16.
+    pub fn rows(&self, table: Table) -> Result<Rows<'_>, Refusal> {
+        let mut list = Vec::new();
+        let walk = match self.rows_into(table, &mut list) {
+            Err(Refusal::ListShort(rows)) => {
+                list.resize(usize::try_from(rows).unwrap_or(usize::MAX), 0);
+                self.rows_into(table, &mut list)?
+            }
+            answer => answer?,
+        };
+        Ok(Rows {
+            intake: self,
+            table,
+            walk,
+            places: list.into_iter().enumerate(),
+        })
+    }
+
+    /// Asks for record `k` of a table, from 0.
+    ///
+    /// # Errors
+    /// Refusals 1 to 4, 8 to 16, and 18 where the table has no such row.
+    pub fn record(&self, table: Table, k: u64) -> Result<Reply<Record>, Refusal> {
+        let mut result = [0; RESULT];
+        let code = raw::record(
+            self.len,
+            self.image,
+            self.map,
+            table.number(),
+            k,
+            &mut result,
+        );
+        reply(code, &result, |n| Record::from_numbers(table, n))
+    }
+
+    /// Asks for a string of record `k` of a table, by its slot.
+    ///
+    /// # Errors
+    /// Refusals 1 to 4, 8 to 16, 18, and 19 where the table has no such slot.
+    pub fn text(&self, table: Table, k: u64, slot: u64) -> Result<Reply<Text<'_>>, Refusal> {
+        let mut result = [0; 3];
+        let code = raw::text(
+            self.len,
+            self.image,
+            self.map,
+            table.number(),
+            k,
+            slot,
+            &mut result,
+        );
+        reply(code, &result, |n| {
+            let (at, size) = (n[0] as usize, n[1] as usize);
+            Text {
+                place: n[0],
+                bytes: &self.image[at..at + size],
+                encoding: if n[2] == 1 {
+                    Encoding::Utf16Le
+                } else {
+                    Encoding::Ascii
+                },
+            }
+        })
+    }
+}
+
+/// The answer about one row from a code and its values.
+fn reply<T, const N: usize>(
+    code: u32,
+    result: &[u64; N],
+    found: impl FnOnce(&[u64; N]) -> T,
+) -> Result<Reply<T>, Refusal> {
+    match code {
+        DONE => Ok(Reply::Found(found(result))),
+        WAITING => Ok(Reply::Waiting {
+            page: result[2],
+            rows: result[0],
+            pages: result[1],
+        }),
+        number => Err(Refusal::new(number, result[0])),
+    }
+}
+
+/// The rows of a table that were found, in order.
+#[derive(Debug)]
+pub struct Rows<'a> {
+    intake: &'a Intake<'a>,
+    table: Table,
+    walk: Walk,
+    places: std::iter::Enumerate<std::vec::IntoIter<u32>>,
+}
+
+impl Rows<'_> {
+    /// Where the walk came to: Full, or Waiting with more rows to come.
+    #[must_use]
+    pub fn walk(&self) -> Walk {
+        self.walk
+    }
+}
+
+impl<'a> Iterator for Rows<'a> {
+    type Item = Row<'a>;
+
+    fn next(&mut self) -> Option<Row<'a>> {
+        let (k, place) = self.places.next()?;
+        Some(Row {
+            intake: self.intake,
+            table: self.table,
+            k: k as u64,
+            place,
+        })
+    }
+
+    fn size_hint(&self) -> (usize, Option<usize>) {
+        self.places.size_hint()
+    }
+}
+
+impl ExactSizeIterator for Rows<'_> {}
+
+/// A row that was found. Each of its questions walks the table's pages again.
+#[derive(Clone, Copy, Debug)]
+pub struct Row<'a> {
+    intake: &'a Intake<'a>,
+    table: Table,
+    k: u64,
+    place: u32,
+}
+
+impl<'a> Row<'a> {
+    /// Its number among the table's rows, from 0.
+    #[must_use]
+    pub fn number(&self) -> u64 {
+        self.k
+    }
+
+    /// Where it starts in the image.
+    #[must_use]
+    pub fn place(&self) -> u32 {
+        self.place
+    }
+
+    /// Its record.
+    ///
+    /// # Errors
+    /// A row that was found is there, so none while the image and the map are as they were.
+    pub fn record(&self) -> Result<Record, Refusal> {
+        self.intake
+            .record(self.table, self.k)?
+            .found()
+            .ok_or(Refusal::NoRow)
+    }
+
+    /// The text of one of its string slots.
+    ///
+    /// # Errors
+    /// 19 where the table has no such slot.
+    pub fn text(&self, slot: u64) -> Result<Text<'a>, Refusal> {
+        self.intake
+            .text(self.table, self.k, slot)?
+            .found()
+            .ok_or(Refusal::NoRow)
+    }
+}

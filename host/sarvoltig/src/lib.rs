@@ -1,0 +1,39 @@
+//! A proved reader of rekordbox `export.pdb` files that arrive in blocks of 512 bytes, late, repeated, misnumbered or cut.
+//!
+//! An [`Intake`] stands over an image and a map that the caller owns. Blocks are delivered as they come, and questions
+//! are asked at any time: all rows of a table, a record, a string of a record. An answer is complete, or waits at the
+//! first page that is not wholly there, or is a [`Refusal`], which changes no memory.
+//!
+//! The work is done by the archive `libsarvoltig.a`, whose functions are proved; this crate names its numbers.
+//!
+//! ```
+//! use sarvoltig::{map_words, Intake, Table};
+//!
+//! # fn blocks() -> Vec<(u64, Vec<u8>)> { Vec::new() }
+//! let mut image = vec![0; 4096];
+//! let mut map = vec![0; map_words(4096)];
+//! let mut intake = Intake::open(&mut image, &mut map)?;
+//! for (number, bytes) in blocks() {
+//!     intake.deliver(number, &bytes)?;
+//! }
+//! for row in intake.rows(Table::PlaylistTree)? {
+//!     println!("{}", row.text(0)?);
+//! }
+//! # Ok::<(), sarvoltig::Refusal>(())
+//! ```
+
+#![deny(missing_docs)]
+#![deny(unsafe_op_in_unsafe_fn)]
+
+mod intake;
+pub mod raw;
+mod record;
+mod refusal;
+mod table;
+mod text;
+
+pub use intake::{map_words, Delivered, Intake, Reply, Row, Rows, Walk, BLOCK};
+pub use record::{Record, Track};
+pub use refusal::Refusal;
+pub use table::Table;
+pub use text::{Encoding, Text};

@@ -1,0 +1,188 @@
+//! The five functions of the archive over numbers and slices, as `include/sarvoltig.h` has them.
+//!
+//! Each returns a code: [`DONE`], [`SAME`], [`WAITING`], or a refusal's number. The answer's values go to the
+//! front of `result`, as many as it takes; [`RESULT`] words take every answer.
+
+/// Words that take the values of every answer: the 22 numbers of a track.
+pub const RESULT: usize = 22;
+/// Code of Open, New, Full and Found.
+pub const DONE: u32 = 0;
+/// Code of a delivery of a held block with the same bytes.
+pub const SAME: u32 = 64;
+/// Code of a walk that waits.
+pub const WAITING: u32 = 65;
+
+/// The archive's functions: a slice is passed as its pointer and its length.
+mod c {
+    extern "C" {
+        pub fn sarvoltig_open(
+            len: u64,
+            image: *const u8,
+            image_len: usize,
+            map: *mut u64,
+            map_len: usize,
+            result: *mut u64,
+            result_len: usize,
+        ) -> u32;
+        pub fn sarvoltig_deliver(
+            len: u64,
+            image: *mut u8,
+            image_len: usize,
+            map: *mut u64,
+            map_len: usize,
+            block: u64,
+            piece: *const u8,
+            piece_len: usize,
+            result: *mut u64,
+            result_len: usize,
+        ) -> u32;
+        pub fn sarvoltig_rows(
+            len: u64,
+            image: *const u8,
+            image_len: usize,
+            map: *const u64,
+            map_len: usize,
+            table: u32,
+            list: *mut u32,
+            list_len: usize,
+            result: *mut u64,
+            result_len: usize,
+        ) -> u32;
+        pub fn sarvoltig_record(
+            len: u64,
+            image: *const u8,
+            image_len: usize,
+            map: *const u64,
+            map_len: usize,
+            table: u32,
+            k: u64,
+            result: *mut u64,
+            result_len: usize,
+        ) -> u32;
+        pub fn sarvoltig_text(
+            len: u64,
+            image: *const u8,
+            image_len: usize,
+            map: *const u64,
+            map_len: usize,
+            table: u32,
+            k: u64,
+            slot: u64,
+            result: *mut u64,
+            result_len: usize,
+        ) -> u32;
+    }
+}
+
+/// Opens an intake for a file of `len` bytes: clears the map's counted words. Value: the number of blocks.
+pub fn open(len: u64, image: &[u8], map: &mut [u64], result: &mut [u64]) -> u32 {
+    // SAFETY: each pointer comes from a slice and goes with its length; the function reads and writes inside them only.
+    unsafe {
+        c::sarvoltig_open(
+            len,
+            image.as_ptr(),
+            image.len(),
+            map.as_mut_ptr(),
+            map.len(),
+            result.as_mut_ptr(),
+            result.len(),
+        )
+    }
+}
+
+/// Delivers a block. Value: the held count.
+pub fn deliver(
+    len: u64,
+    image: &mut [u8],
+    map: &mut [u64],
+    block: u64,
+    piece: &[u8],
+    result: &mut [u64],
+) -> u32 {
+    // SAFETY: as in `open`.
+    unsafe {
+        c::sarvoltig_deliver(
+            len,
+            image.as_mut_ptr(),
+            image.len(),
+            map.as_mut_ptr(),
+            map.len(),
+            block,
+            piece.as_ptr(),
+            piece.len(),
+            result.as_mut_ptr(),
+            result.len(),
+        )
+    }
+}
+
+/// Asks for all rows of a table. Values: rows, pages, and the page where the walk waits.
+pub fn rows(
+    len: u64,
+    image: &[u8],
+    map: &[u64],
+    table: u32,
+    list: &mut [u32],
+    result: &mut [u64],
+) -> u32 {
+    // SAFETY: as in `open`.
+    unsafe {
+        c::sarvoltig_rows(
+            len,
+            image.as_ptr(),
+            image.len(),
+            map.as_ptr(),
+            map.len(),
+            table,
+            list.as_mut_ptr(),
+            list.len(),
+            result.as_mut_ptr(),
+            result.len(),
+        )
+    }
+}
+
+/// Asks for record `k` of a table. Values: its numbers.
+pub fn record(len: u64, image: &[u8], map: &[u64], table: u32, k: u64, result: &mut [u64]) -> u32 {
+    // SAFETY: as in `open`.
+    unsafe {
+        c::sarvoltig_record(
+            len,
+            image.as_ptr(),
+            image.len(),
+            map.as_ptr(),
+            map.len(),
+            table,
+            k,
+            result.as_mut_ptr(),
+            result.len(),
+        )
+    }
+}
+
+/// Asks for a string slot of record `k`. Values: place, length in bytes, encoding (0 ASCII, 1 UTF-16LE).
+pub fn text(
+    len: u64,
+    image: &[u8],
+    map: &[u64],
+    table: u32,
+    k: u64,
+    slot: u64,
+    result: &mut [u64],
+) -> u32 {
+    // SAFETY: as in `open`.
+    unsafe {
+        c::sarvoltig_text(
+            len,
+            image.as_ptr(),
+            image.len(),
+            map.as_ptr(),
+            map.len(),
+            table,
+            k,
+            slot,
+            result.as_mut_ptr(),
+            result.len(),
+        )
+    }
+}

@@ -1,0 +1,160 @@
+//! Records: a row's numbers by name.
+
+use crate::Table;
+
+/// The numbers of a row, one kind for each table, under the published names.
+#[derive(Clone, Copy, Debug, PartialEq, Eq, Hash)]
+pub enum Record {
+    /// A track.
+    Track(Track),
+    /// A genre.
+    Genre {
+        /// Its id.
+        id: u32,
+    },
+    /// An artist.
+    Artist {
+        /// Its id.
+        id: u32,
+    },
+    /// An album.
+    Album {
+        /// The id of its artist.
+        artist_id: u32,
+        /// Its id.
+        id: u32,
+    },
+    /// A label.
+    Label {
+        /// Its id.
+        id: u32,
+    },
+    /// A musical key.
+    Key {
+        /// Its id.
+        id: u32,
+    },
+    /// A color.
+    Color {
+        /// Its id.
+        id: u32,
+    },
+    /// A playlist or a folder.
+    PlaylistNode {
+        /// The id of the folder that it stands in, 0 at the top.
+        parent_id: u32,
+        /// Its place among its siblings.
+        sort_order: u32,
+        /// Its id.
+        id: u32,
+        /// Not zero for a folder.
+        raw_is_folder: u32,
+    },
+    /// A track's place in a playlist.
+    PlaylistEntry {
+        /// Its place.
+        entry_index: u32,
+        /// The track's id.
+        track_id: u32,
+        /// The playlist's id.
+        playlist_id: u32,
+    },
+    /// A cover image.
+    Artwork {
+        /// Its id.
+        id: u32,
+    },
+}
+
+/// The numbers of a track.
+#[derive(Clone, Copy, Debug, Default, PartialEq, Eq, Hash)]
+#[allow(missing_docs)]
+pub struct Track {
+    pub sample_rate: u32,
+    pub composer_id: u32,
+    pub file_size: u32,
+    pub artwork_id: u32,
+    pub key_id: u32,
+    pub original_artist_id: u32,
+    pub label_id: u32,
+    pub remixer_id: u32,
+    pub bitrate: u32,
+    pub track_number: u32,
+    /// Beats per minute times 100.
+    pub tempo: u32,
+    pub genre_id: u32,
+    pub album_id: u32,
+    pub artist_id: u32,
+    pub id: u32,
+    pub disc_number: u16,
+    pub play_count: u16,
+    pub year: u16,
+    pub sample_depth: u16,
+    /// In seconds.
+    pub duration: u16,
+    pub color_id: u8,
+    pub rating: u8,
+}
+
+impl Track {
+    /// The string slot of the title.
+    pub const TITLE: u64 = 17;
+
+    fn from_numbers(n: &[u64; crate::raw::RESULT]) -> Self {
+        Self {
+            sample_rate: n[0] as u32,
+            composer_id: n[1] as u32,
+            file_size: n[2] as u32,
+            artwork_id: n[3] as u32,
+            key_id: n[4] as u32,
+            original_artist_id: n[5] as u32,
+            label_id: n[6] as u32,
+            remixer_id: n[7] as u32,
+            bitrate: n[8] as u32,
+            track_number: n[9] as u32,
+            tempo: n[10] as u32,
+            genre_id: n[11] as u32,
+            album_id: n[12] as u32,
+            artist_id: n[13] as u32,
+            id: n[14] as u32,
+            disc_number: n[15] as u16,
+            play_count: n[16] as u16,
+            year: n[17] as u16,
+            sample_depth: n[18] as u16,
+            duration: n[19] as u16,
+            color_id: n[20] as u8,
+            rating: n[21] as u8,
+        }
+    }
+}
+
+impl Record {
+    /// The record of a table from its numbers, in document 01's order.
+    pub(crate) fn from_numbers(table: Table, n: &[u64; crate::raw::RESULT]) -> Self {
+        let id = n[0] as u32;
+        match table {
+            Table::Tracks => Self::Track(Track::from_numbers(n)),
+            Table::Genres => Self::Genre { id },
+            Table::Artists => Self::Artist { id },
+            Table::Albums => Self::Album {
+                artist_id: n[0] as u32,
+                id: n[1] as u32,
+            },
+            Table::Labels => Self::Label { id },
+            Table::Keys => Self::Key { id },
+            Table::Colors => Self::Color { id },
+            Table::PlaylistTree => Self::PlaylistNode {
+                parent_id: n[0] as u32,
+                sort_order: n[1] as u32,
+                id: n[2] as u32,
+                raw_is_folder: n[3] as u32,
+            },
+            Table::PlaylistEntries => Self::PlaylistEntry {
+                entry_index: n[0] as u32,
+                track_id: n[1] as u32,
+                playlist_id: n[2] as u32,
+            },
+            Table::Artwork => Self::Artwork { id },
+        }
+    }
+}

@@ -1,0 +1,172 @@
+//! Refusals: document 01's numbers as an error type.
+
+use std::error::Error;
+use std::fmt;
+
+/// Why a call was refused. A refusal changes no borrowed memory.
+///
+/// ```
+/// use sarvoltig::{Intake, Refusal};
+///
+/// let mut image = [0; 500];
+/// let mut map = [0; 1];
+/// let refusal = Intake::open(&mut image, &mut map).err();
+/// assert_eq!(refusal, Some(Refusal::Length));
+/// assert_eq!(Refusal::Length.number(), 1);
+/// ```
+#[derive(Clone, Copy, Debug, PartialEq, Eq, Hash)]
+#[non_exhaustive]
+pub enum Refusal {
+    /// 1: the file length is not allowed.
+    Length,
+    /// 2: the image is shorter than the file.
+    ImageShort,
+    /// 3: the map is too short.
+    MapShort,
+    /// 4: the map has a bit past the last block.
+    MapSpare,
+    /// 5: the block number is past the last block.
+    BlockNumber,
+    /// 6: the piece is not 512 bytes.
+    PieceSize,
+    /// 7: the block is held with other bytes.
+    BlockDiffers,
+    /// 8: the table type is not one of the ten.
+    TableType,
+    /// 9: the file header is broken.
+    FileHeader,
+    /// 10: the file has no such table.
+    NoPointer,
+    /// 11: a link leaves the file; the page that holds it, 0 for the directory.
+    PageLink(u64),
+    /// 12: the page's header disagrees.
+    PageHeader(u64),
+    /// 13: the page's row index does not fit.
+    RowIndex(u64),
+    /// 14: a row of the page does not fit, or is an artist of unknown subtype.
+    RowShort(u64),
+    /// 15: a string of the page is malformed or leaves it.
+    TextFault(u64),
+    /// 16: the chain meets a page twice.
+    ChainLoop,
+    /// 17: the list is too short; the rows found.
+    ListShort(u64),
+    /// 18: the table has no such row.
+    NoRow,
+    /// 19: the table has no such string slot.
+    NoSlot,
+    /// A number that this version does not know.
+    Other {
+        /// The refusal's number.
+        number: u32,
+        /// What it carries.
+        carries: u64,
+    },
+}
+
+impl Refusal {
+    /// The refusal of a number of document 01 with what it carries.
+    #[must_use]
+    pub fn new(number: u32, carries: u64) -> Self {
+        match number {
+            1 => Self::Length,
+            2 => Self::ImageShort,
+            3 => Self::MapShort,
+            4 => Self::MapSpare,
+            5 => Self::BlockNumber,
+            6 => Self::PieceSize,
+            7 => Self::BlockDiffers,
+            8 => Self::TableType,
+            9 => Self::FileHeader,
+            10 => Self::NoPointer,
+            11 => Self::PageLink(carries),
+            12 => Self::PageHeader(carries),
+            13 => Self::RowIndex(carries),
+            14 => Self::RowShort(carries),
+            15 => Self::TextFault(carries),
+            16 => Self::ChainLoop,
+            17 => Self::ListShort(carries),
+            18 => Self::NoRow,
+            19 => Self::NoSlot,
+            _ => Self::Other { number, carries },
+        }
+    }
+
+    /// Its number in document 01.
+    #[must_use]
+    pub fn number(self) -> u32 {
+        match self {
+            Self::Length => 1,
+            Self::ImageShort => 2,
+            Self::MapShort => 3,
+            Self::MapSpare => 4,
+            Self::BlockNumber => 5,
+            Self::PieceSize => 6,
+            Self::BlockDiffers => 7,
+            Self::TableType => 8,
+            Self::FileHeader => 9,
+            Self::NoPointer => 10,
+            Self::PageLink(_) => 11,
+            Self::PageHeader(_) => 12,
+            Self::RowIndex(_) => 13,
+            Self::RowShort(_) => 14,
+            Self::TextFault(_) => 15,
+            Self::ChainLoop => 16,
+            Self::ListShort(_) => 17,
+            Self::NoRow => 18,
+            Self::NoSlot => 19,
+            Self::Other { number, .. } => number,
+        }
+    }
+
+    /// What it carries: a page, the rows found, or 0.
+    #[must_use]
+    pub fn carries(self) -> u64 {
+        match self {
+            Self::PageLink(value)
+            | Self::PageHeader(value)
+            | Self::RowIndex(value)
+            | Self::RowShort(value)
+            | Self::TextFault(value)
+            | Self::ListShort(value)
+            | Self::Other { carries: value, .. } => value,
+            _ => 0,
+        }
+    }
+
+    /// Whether it is a fault of the file's own (9 to 16), which every later question on the table meets again.
+    #[must_use]
+    pub fn is_file_fault(self) -> bool {
+        (9..=16).contains(&self.number())
+    }
+}
+
+impl fmt::Display for Refusal {
+    fn fmt(&self, f: &mut fmt::Formatter<'_>) -> fmt::Result {
+        match self {
+            Self::Length => write!(f, "the file length is not allowed"),
+            Self::ImageShort => write!(f, "the image is shorter than the file"),
+            Self::MapShort => write!(f, "the map is too short"),
+            Self::MapSpare => write!(f, "the map has a bit past the last block"),
+            Self::BlockNumber => write!(f, "the block number is past the last block"),
+            Self::PieceSize => write!(f, "the piece is not 512 bytes"),
+            Self::BlockDiffers => write!(f, "the block is held with other bytes"),
+            Self::TableType => write!(f, "the table type is not one of the ten"),
+            Self::FileHeader => write!(f, "the file header is broken"),
+            Self::NoPointer => write!(f, "the file has no such table"),
+            Self::PageLink(0) => write!(f, "a link of the directory leaves the file"),
+            Self::PageLink(page) => write!(f, "the link of page {page} leaves the file"),
+            Self::PageHeader(page) => write!(f, "the header of page {page} disagrees"),
+            Self::RowIndex(page) => write!(f, "the row index of page {page} does not fit"),
+            Self::RowShort(page) => write!(f, "a row of page {page} does not fit"),
+            Self::TextFault(page) => write!(f, "a string of page {page} is malformed"),
+            Self::ChainLoop => write!(f, "the chain meets a page twice"),
+            Self::ListShort(rows) => write!(f, "the list is too short for {rows} rows"),
+            Self::NoRow => write!(f, "the table has no such row"),
+            Self::NoSlot => write!(f, "the table has no such string slot"),
+            Self::Other { number, carries } => write!(f, "refusal {number} with {carries}"),
+        }
+    }
+}
+
+impl Error for Refusal {}

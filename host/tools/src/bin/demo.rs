@@ -1,0 +1,378 @@
+//! `demo FILE [--late N] [--repeated N] [--harsh] [--seed N] [--pause MS]`: the main job on a terminal.
+//!
+//! The file's blocks arrive out of order, some late and some repeated (N of a hundred). The display shows the blocks
+//! held and the rows known of each table, and at the end the playlists with their tracks. A row once shown is never
+//! taken back: each answer is compared with the one before.
+
+use sarvoltig::{map_words, Delivered, Intake, Record, Refusal, Table, Text, Track, Walk, BLOCK};
+use sarvoltig_reference::rng::Rng;
+use std::collections::{HashMap, HashSet};
+use std::io::{self, IsTerminal, Write};
+use std::process::ExitCode;
+use std::thread::sleep;
+use std::time::Duration;
+
+const USAGE: &str = "usage: demo FILE [--late N] [--repeated N] [--harsh] [--seed N] [--pause MS]";
+/// Where a track's id stands in its row.
+const TRACK_ID: usize = 0x48;
+const BAR: usize = 40;
+
+/// What the command line asks for.
+struct Options {
+    file: String,
+    late: u64,
+    repeated: u64,
+    damaged: u64,
+    seed: u64,
+    pause: u64,
+}
+
+impl Options {
+    fn parse(mut words: impl Iterator<Item = String>) -> Option<Self> {
+        let file = words.next()?;
+        let mut options = Self {
+            file,
+            late: 31,
+            repeated: 9,
+            damaged: 0,
+            seed: 1,
+            pause: 15,
+        };
+        while let Some(word) = words.next() {
+            let mut number = || words.next()?.parse().ok();
+            match word.as_str() {
+                "--late" => options.late = number()?,
+                "--repeated" => options.repeated = number()?,
+                "--seed" => options.seed = number()?,
+                "--pause" => options.pause = number()?,
+                "--harsh" => (options.late, options.repeated, options.damaged) = (70, 40, 20),
+                _ => return None,
+            }
+        }
+        Some(options)
+    }
+}
+
+/// What the network brings: a block's number and bytes, right or wrong.
+struct Arrival {
+    block: u64,
+    piece: Vec<u8>,
+}
+
+/// The file's blocks as they arrive.
+fn arrivals(file: &[u8], options: &Options) -> Vec<Arrival> {
+    let mut rng = Rng::new(options.seed);
+    let blocks = file.len() / BLOCK;
+    let mut timed = Vec::new();
+    for block in 0..blocks {
+        let piece = &file[block * BLOCK..(block + 1) * BLOCK];
+        let late = if rng.below(100) < options.late {
+            1 + rng.below(blocks as u64)
+        } else {
+            0
+        };
+        let time = block as u64 + late;
+        timed.push((
+            time,
+            Arrival {
+                block: block as u64,
+                piece: piece.to_vec(),
+            },
+        ));
+        if rng.below(100) < options.repeated {
+            let again = time + 1 + rng.below(20);
+            timed.push((
+                again,
+                Arrival {
+                    block: block as u64,
+                    piece: piece.to_vec(),
+                },
+            ));
+        }
+        if rng.below(100) < options.damaged {
+            timed.push((
+                time + rng.below(40),
+                damaged(block, piece, blocks, &mut rng),
+            ));
+        }
+    }
+    timed.sort_by_key(|&(time, _)| time);
+    timed.into_iter().map(|(_, arrival)| arrival).collect()
+}
+
+/// A cut piece, or one under the number of no block.
+fn damaged(block: usize, piece: &[u8], blocks: usize, rng: &mut Rng) -> Arrival {
+    if rng.below(2) == 0 {
+        Arrival {
+            block: block as u64,
+            piece: piece[..rng.below(BLOCK as u64) as usize].to_vec(),
+        }
+    } else {
+        Arrival {
+            block: (blocks + block) as u64,
+            piece: piece.to_vec(),
+        }
+    }
+}
+
+/// The rows shown of each table, and what the deliveries were.
+#[derive(Default)]
+struct Shown {
+    places: HashMap<Table, Vec<u32>>,
+    new: u64,
+    same: u64,
+    refused: u64,
+}
+
+/// The terminal: a picture that is drawn over the one before, or plain lines.
+struct Screen {
+    terminal: bool,
+    lines: usize,
+}
+
+impl Screen {
+    fn draw(&mut self, picture: &[String]) -> io::Result<()> {
+        let mut out = io::stdout().lock();
+        if self.terminal && self.lines > 0 {
+            write!(out, "\x1b[{}A", self.lines)?;
+        }
+        for line in picture {
+            let clear = if self.terminal { "\x1b[K" } else { "" };
+            writeln!(out, "{line}{clear}")?;
+        }
+        self.lines = picture.len();
+        out.flush()
+    }
+}
+
+fn bar(held: u64, blocks: u64) -> String {
+    let full = (held * BAR as u64 / blocks.max(1)) as usize;
+    format!("[{}{}]", "#".repeat(full), ".".repeat(BAR - full))
+}
+
+/// A table's line: its rows and where the walk stands. Rows that an earlier answer had must stay first.
+fn table_line(intake: &Intake, table: Table, shown: &mut Shown) -> String {
+    let name = format!("{table:?}");
+    match intake.rows(table) {
+        Ok(rows) => {
+            let walk = rows.walk();
+            let places: Vec<u32> = rows.map(|row| row.place()).collect();
+            let before = shown
+                .places
+                .insert(table, places.clone())
+                .unwrap_or_default();
+            assert!(places.starts_with(&before), "{name}: a row was taken back");
+            let state = match walk {
+                Walk::Full { pages, .. } => format!("all {pages} pages"),
+                Walk::Waiting { page: 0, .. } => "waits for the directory".to_string(),
+                Walk::Waiting { page, .. } => format!("waits for page {page}"),
+            };
+            format!("  {name:<16}{:>7} rows, {state}", walk.rows())
+        }
+        Err(Refusal::NoPointer) => format!("  {name:<16}      no table"),
+        Err(refusal) => format!("  {name:<16}      refused {}: {refusal}", refusal.number()),
+    }
+}
+
+fn picture(intake: &Intake, held: u64, shown: &mut Shown) -> Vec<String> {
+    let blocks = intake.blocks();
+    let mut lines = vec![format!(
+        "{} {held} of {blocks} blocks held; {} new, {} repeated, {} refused",
+        bar(held, blocks),
+        shown.new,
+        shown.same,
+        shown.refused
+    )];
+    lines.extend(Table::ALL.map(|table| table_line(intake, table, shown)));
+    lines
+}
+
+/// Takes the arrivals in and draws as they come.
+fn take_in(intake: &mut Intake, arrivals: &[Arrival], pause: u64) -> io::Result<()> {
+    let mut shown = Shown::default();
+    let mut screen = Screen {
+        terminal: io::stdout().is_terminal(),
+        lines: 0,
+    };
+    let every = if screen.terminal {
+        arrivals.len().div_ceil(400)
+    } else {
+        arrivals.len().div_ceil(5)
+    };
+    let mut held = 0;
+    for (count, arrival) in (1..).zip(arrivals) {
+        match intake.deliver(arrival.block, &arrival.piece) {
+            Ok(delivered) => {
+                held = delivered.held();
+                match delivered {
+                    Delivered::New(_) => shown.new += 1,
+                    Delivered::Same(_) => shown.same += 1,
+                }
+            }
+            Err(_) => shown.refused += 1,
+        }
+        if count % every.max(1) == 0 || count == arrivals.len() {
+            screen.draw(&picture(intake, held, &mut shown))?;
+            if screen.terminal {
+                sleep(Duration::from_millis(pause));
+            }
+        }
+    }
+    Ok(())
+}
+
+/// A text for the terminal: a control character of the file is not obeyed.
+fn printable(text: Text) -> String {
+    let whole = text.to_string();
+    whole
+        .chars()
+        .map(|c| {
+            if c.is_control() {
+                char::REPLACEMENT_CHARACTER
+            } else {
+                c
+            }
+        })
+        .collect()
+}
+
+/// A node of the playlist tree.
+struct Node {
+    parent: u32,
+    order: u32,
+    id: u32,
+    folder: bool,
+    name: String,
+}
+
+fn nodes(intake: &Intake) -> Result<Vec<Node>, Refusal> {
+    let mut nodes = Vec::new();
+    for row in intake.rows(Table::PlaylistTree)? {
+        if let Record::PlaylistNode {
+            parent_id,
+            sort_order,
+            id,
+            raw_is_folder,
+        } = row.record()?
+        {
+            let name = printable(row.text(0)?);
+            nodes.push(Node {
+                parent: parent_id,
+                order: sort_order,
+                id,
+                folder: raw_is_folder != 0,
+                name,
+            });
+        }
+    }
+    nodes.sort_by_key(|node| (node.order, node.id));
+    Ok(nodes)
+}
+
+/// The tracks of each playlist in their order, by id.
+fn entries(intake: &Intake) -> Result<HashMap<u32, Vec<(u32, u32)>>, Refusal> {
+    let mut lists: HashMap<u32, Vec<(u32, u32)>> = HashMap::new();
+    for row in intake.rows(Table::PlaylistEntries)? {
+        if let Record::PlaylistEntry {
+            entry_index,
+            track_id,
+            playlist_id,
+        } = row.record()?
+        {
+            lists
+                .entry(playlist_id)
+                .or_default()
+                .push((entry_index, track_id));
+        }
+    }
+    lists.values_mut().for_each(|list| list.sort_unstable());
+    Ok(lists)
+}
+
+/// The number of each track's row, by its id.
+fn track_rows(intake: &Intake) -> Result<HashMap<u32, u64>, Refusal> {
+    let mut numbers = HashMap::new();
+    for row in intake.rows(Table::Tracks)? {
+        let at = row.place() as usize + TRACK_ID;
+        let id = intake.image()[at..at + 4]
+            .iter()
+            .rev()
+            .fold(0, |id, &b| id << 8 | u32::from(b));
+        numbers.entry(id).or_insert(row.number());
+    }
+    Ok(numbers)
+}
+
+/// The nodes in the order of the menu, each with its level. A folder is opened once, whatever the file says.
+fn menu(nodes: &[Node]) -> Vec<(usize, &Node)> {
+    let mut opened = HashSet::from([0]);
+    let mut menu = Vec::new();
+    let mut open = vec![(0, 0, 0)];
+    while let Some((parent, level, from)) = open.pop() {
+        let next = nodes[from..].iter().position(|node| node.parent == parent);
+        let Some(at) = next.map(|at| from + at) else {
+            continue;
+        };
+        open.push((parent, level, at + 1));
+        menu.push((level, &nodes[at]));
+        if nodes[at].folder && opened.insert(nodes[at].id) {
+            open.push((nodes[at].id, level + 1, 0));
+        }
+    }
+    menu
+}
+
+/// The playlists with their tracks, folders opened out.
+fn playlists(intake: &Intake) -> Result<(), Refusal> {
+    let (nodes, entries, tracks) = (nodes(intake)?, entries(intake)?, track_rows(intake)?);
+    for (level, node) in menu(&nodes) {
+        println!(
+            "{}{}{}",
+            "  ".repeat(level),
+            node.name,
+            if node.folder { "/" } else { "" }
+        );
+        for (index, id) in entries
+            .get(&node.id)
+            .filter(|_| !node.folder)
+            .into_iter()
+            .flatten()
+        {
+            let title = match tracks.get(id) {
+                Some(&k) => intake
+                    .text(Table::Tracks, k, Track::TITLE)?
+                    .found()
+                    .map(printable),
+                None => None,
+            };
+            let title = title.unwrap_or_else(|| format!("track {id} is missing"));
+            println!("{}{index:>4}  {title}", "  ".repeat(level + 1));
+        }
+    }
+    Ok(())
+}
+
+fn run(options: &Options) -> Result<(), String> {
+    let file = std::fs::read(&options.file).map_err(|e| format!("{}: {e}", options.file))?;
+    let mut image = vec![0; file.len()];
+    let mut map = vec![0; map_words(file.len() as u64)];
+    let mut intake = Intake::open(&mut image, &mut map)
+        .map_err(|e| format!("{}: refused {}: {e}", options.file, e.number()))?;
+    take_in(&mut intake, &arrivals(&file, options), options.pause).map_err(|e| e.to_string())?;
+    println!();
+    playlists(&intake).map_err(|e| format!("{}: refused {}: {e}", options.file, e.number()))
+}
+
+fn main() -> ExitCode {
+    let Some(options) = Options::parse(std::env::args().skip(1)) else {
+        eprintln!("{USAGE}");
+        return ExitCode::from(2);
+    };
+    match run(&options) {
+        Ok(()) => ExitCode::SUCCESS,
+        Err(message) => {
+            eprintln!("demo: {message}");
+            ExitCode::FAILURE
+        }
+    }
+}

@@ -1,0 +1,248 @@
+//! Calls made on the library.
+
+use sarvoltig::raw::{self, DONE, RESULT, SAME, WAITING};
+use sarvoltig_reference::model::{Delivered, Encoding, RecordReply, Refusal, Rows, TextReply};
+use sarvoltig_reference::schedule::{Answer, Call, Reply};
+
+/// What a list's numbers are before a call.
+const UNWRITTEN: u32 = 0xeeee_eeee;
+/// What the result's words are before a call.
+const UNTOUCHED: u64 = 0xeeee_eeee_eeee_eeee;
+/// Result words past those that an answer can need.
+const SPARE: usize = 2;
+
+/// The record and both buffers of a run on the library.
+#[derive(Debug, Default)]
+pub struct Library {
+    len: u64,
+    image: Vec<u8>,
+    map: Vec<u64>,
+}
+
+/// Why a call cannot be made.
+#[derive(Clone, Copy, Debug, PartialEq, Eq)]
+pub enum Failure {
+    /// There is no memory for its buffers.
+    NoMemory,
+    /// The library wrote a result word that belongs to no answer, or gave an unknown code.
+    Wrong,
+}
+
+/// `size` elements, each given by its place.
+fn filled<T>(size: usize, element: impl Fn(u64) -> T) -> Result<Vec<T>, Failure> {
+    let mut buffer = Vec::new();
+    buffer
+        .try_reserve_exact(size)
+        .map_err(|_| Failure::NoMemory)?;
+    buffer.extend((0..size as u64).map(element));
+    Ok(buffer)
+}
+
+/// A code with its values.
+struct Coded {
+    code: u32,
+    values: [u64; RESULT + SPARE],
+}
+
+impl Coded {
+    fn of(call: impl FnOnce(&mut [u64]) -> u32) -> Self {
+        let mut values = [UNTOUCHED; RESULT + SPARE];
+        let code = call(&mut values);
+        Self { code, values }
+    }
+
+    /// The first `count` values, where the words behind them are untouched.
+    fn values(&self, count: usize) -> Result<&[u64], Failure> {
+        let (values, rest) = self.values.split_at(count);
+        let untouched = rest.iter().all(|&word| word == UNTOUCHED);
+        if untouched {
+            Ok(values)
+        } else {
+            Err(Failure::Wrong)
+        }
+    }
+
+    /// A good answer, or the refusal.
+    fn answer<T>(
+        &self,
+        good: impl FnOnce(&Self) -> Option<Result<T, Failure>>,
+    ) -> Result<Result<T, Refusal>, Failure> {
+        if let Some(answer) = good(self) {
+            return answer.map(Ok);
+        }
+        let carries = self.values(1)?[0];
+        let number = u8::try_from(self.code).map_err(|_| Failure::Wrong)?;
+        Ok(Err(Refusal { number, carries }))
+    }
+
+    /// Rows, pages and page of a walk that waits.
+    fn waits(&self) -> Option<Result<(u32, u64, u64), Failure>> {
+        (self.code == WAITING).then(|| {
+            let values = self.values(3)?;
+            Ok((
+                u32::try_from(values[2]).map_err(|_| Failure::Wrong)?,
+                values[0],
+                values[1],
+            ))
+        })
+    }
+}
+
+impl Library {
+    /// The image.
+    #[must_use]
+    pub fn image(&self) -> &[u8] {
+        &self.image
+    }
+
+    /// The map.
+    #[must_use]
+    pub fn map(&self) -> &[u64] {
+        &self.map
+    }
+
+    /// Makes a call; what it answers, if it does.
+    ///
+    /// # Errors
+    /// [`Failure`].
+    pub fn make(&mut self, call: &Call) -> Result<Option<Answer>, Failure> {
+        let mut list = Vec::new();
+        let reply = match *call {
+            Call::Lend { image, words } => return self.lend(image, words).map(|()| None),
+            Call::Word { i, value } => {
+                self.write(i, value);
+                return Ok(None);
+            }
+            Call::Open { len } => self.open(len)?,
+            Call::Deliver { block, ref piece } => self.deliver(block, piece)?,
+            Call::Rows { table, room } => {
+                list = filled(room, |_| UNWRITTEN)?;
+                self.rows(table, &mut list)?
+            }
+            Call::Record { table, k } => self.record(table, k)?,
+            Call::Text { table, k, slot } => self.text(table, k, slot)?,
+        };
+        Ok(Some(Answer { reply, list }))
+    }
+
+    fn lend(&mut self, image: usize, words: usize) -> Result<(), Failure> {
+        self.image = Vec::new();
+        self.map = Vec::new();
+        self.image = filled(image, |i| i.wrapping_mul(167).wrapping_add(13) as u8)?;
+        self.map = filled(words, |i| 0x0123_4567_89ab_cdef_u64.wrapping_mul(2 * i + 1))?;
+        Ok(())
+    }
+
+    fn write(&mut self, i: u64, value: u64) {
+        let word = usize::try_from(i).ok().and_then(|i| self.map.get_mut(i));
+        if let Some(word) = word {
+            *word = value;
+        }
+    }
+
+    fn open(&mut self, len: u64) -> Result<Result<Reply, Refusal>, Failure> {
+        let coded = Coded::of(|result| raw::open(len, &self.image, &mut self.map, result));
+        if coded.code == DONE {
+            self.len = len;
+        }
+        coded.answer(|c| (c.code == DONE).then(|| Ok(Reply::Open(c.values(1)?[0]))))
+    }
+
+    fn deliver(&mut self, block: u64, piece: &[u8]) -> Result<Result<Reply, Refusal>, Failure> {
+        let coded = Coded::of(|result| {
+            raw::deliver(
+                self.len,
+                &mut self.image,
+                &mut self.map,
+                block,
+                piece,
+                result,
+            )
+        });
+        coded.answer(|c| match c.code {
+            DONE => Some(c.values(1).map(|v| Reply::Delivered(Delivered::New(v[0])))),
+            SAME => Some(c.values(1).map(|v| Reply::Delivered(Delivered::Same(v[0])))),
+            _ => None,
+        })
+    }
+
+    fn rows(&self, table: u8, list: &mut [u32]) -> Result<Result<Reply, Refusal>, Failure> {
+        let coded = Coded::of(|result| {
+            raw::rows(self.len, &self.image, &self.map, table.into(), list, result)
+        });
+        coded
+            .answer(|c| match c.code {
+                DONE => Some(c.values(2).map(|v| Rows::Full {
+                    rows: v[0],
+                    pages: v[1],
+                })),
+                _ => c
+                    .waits()
+                    .map(|w| w.map(|(page, rows, pages)| Rows::Waiting { page, rows, pages })),
+            })
+            .map(|answer| answer.map(Reply::Rows))
+    }
+
+    fn record(&self, table: u8, k: u64) -> Result<Result<Reply, Refusal>, Failure> {
+        let coded = Coded::of(|result| {
+            raw::record(self.len, &self.image, &self.map, table.into(), k, result)
+        });
+        coded
+            .answer(|c| match c.code {
+                DONE => Some(
+                    c.values(numbers_in(table))
+                        .map(|v| RecordReply::Found(v.to_vec())),
+                ),
+                _ => c.waits().map(|w| {
+                    w.map(|(page, rows, pages)| RecordReply::Waiting { page, rows, pages })
+                }),
+            })
+            .map(|answer| answer.map(|reply| Reply::Record(table, reply)))
+    }
+
+    fn text(&self, table: u8, k: u64, slot: u64) -> Result<Result<Reply, Refusal>, Failure> {
+        let coded = Coded::of(|result| {
+            raw::text(
+                self.len,
+                &self.image,
+                &self.map,
+                table.into(),
+                k,
+                slot,
+                result,
+            )
+        });
+        coded
+            .answer(|c| match c.code {
+                DONE => Some(c.values(3).and_then(found_text)),
+                _ => c
+                    .waits()
+                    .map(|w| w.map(|(page, rows, pages)| TextReply::Waiting { page, rows, pages })),
+            })
+            .map(|answer| answer.map(Reply::Text))
+    }
+}
+
+fn found_text(values: &[u64]) -> Result<TextReply, Failure> {
+    let encoding = match values[2] {
+        0 => Encoding::Ascii,
+        1 => Encoding::Utf16Le,
+        _ => return Err(Failure::Wrong),
+    };
+    Ok(TextReply::Found {
+        place: values[0],
+        len: values[1],
+        encoding,
+    })
+}
+
+/// How many numbers a record of a table has.
+fn numbers_in(table: u8) -> usize {
+    match table {
+        0 => 22,
+        3 => 2,
+        7 => 4,
+        8 => 3,
+        _ => 1,
+    }
+}
