@@ -13,10 +13,10 @@ use Rattle.intake.proofs.ones.Tie as tie
 
 abbrev Inv-loop : tie.InvT-loop
 Inv-loop words even₀ odd₀ i₀ even odd i =
-    (i ≤ length words)
+    (onesIn words ≡ valueOf even + valueOf odd + onesIn (drop i words))
+    × (i ≤ length words)
     × (even .eights ≤ 4 * i)
     × (odd .eights ≤ 4 * i)
-    × (onesIn words ≡ valueOf even + valueOf odd + onesIn (drop i words))
 
 abbrev μ-loop : tie.MeasureT-loop
 μ-loop words even₀ odd₀ i₀ even odd i = length words - i

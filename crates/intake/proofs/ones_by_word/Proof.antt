@@ -10,7 +10,7 @@ use Rattle.intake.proofs.ones_by_word.Statement.{statement}
 use Rattle.intake.proofs.ones_by_word.Tie as tie
 
 abbrev Inv-loop : tie.InvT-loop
-Inv-loop words count₀ i₀ count i = (i ≤ length words) × (count ≤ 64 * i) × (onesIn words ≡ count + onesIn (drop i words))
+Inv-loop words count₀ i₀ count i = (onesIn words ≡ count + onesIn (drop i words)) × (i ≤ length words) × (count ≤ 64 * i)
 
 abbrev μ-loop : tie.MeasureT-loop
 μ-loop words count₀ i₀ count i = length words - i
