@@ -1,5 +1,6 @@
 -- The ones of a list of words (specs/Count): word by word, and when one word is replaced.
 --     ones-from      what is left from word i, where there is one
+--     ones-sixteen   what is left from word i, where there are sixteen: the even and the odd words
 --     ones-replace   one word's ones for another's
 --     held-set       the held count when a block's bit is set
 --     held-bound     at most 64 for each counted word
@@ -16,6 +17,7 @@ use lib.ListN.{length, getD, take, drop, set, replicate, drop-of-length-le}
 use lib.Seq.{drop-cons, take-all, take-set-lt, length-take-le, getD-take}
 use lib.Bits.{bitOr}
 use Rattle.intake.specs.Count.{onesIn, heldCount}
+use Rattle.intake.specs.Counter.{fourFrom}
 use Rattle.intake.specs.Length.{blocksOf, countedOf}
 use Rattle.intake.specs.Bit.{wordAt, bit, withBit}
 use Rattle.intake.proofs.Digit.{ones-set}
@@ -24,6 +26,31 @@ use Rattle.intake.proofs.Bit.{bit-zero}
 pub ones-from : (words : List ℕ) (i : ℕ) → i < length words → onesIn (drop i words) ≡ ones (getD words i 0) + onesIn (drop (i + 1) words)
 unfolding onesIn
 ones-from words i h = rw (add-one, drop-cons words i 0)
+
+ones-next : (words : List ℕ) (i j : ℕ) → j ≡ i + 1 → i < length words → onesIn (drop i words) ≡ ones (wordAt words i) + onesIn (drop j words)
+ones-next words i j e h = rw e (ones-from words i h)
+
+ones-eight : (words : List ℕ) (i : ℕ) → i + 8 ≤ length words → onesIn (drop i words) ≡ fourFrom words i + fourFrom words (i + 1) + onesIn (drop (i + 8) words)
+ones-eight words i h =
+    omega (
+      arith,
+      ones-next words i (i + 1) (omega arith) (omega arith),
+      ones-next words (i + 1) (i + 2) (omega arith) (omega arith),
+      ones-next words (i + 2) (i + 1 + 2) (omega arith) (omega arith),
+      ones-next words (i + 1 + 2) (i + 4) (omega arith) (omega arith),
+      ones-next words (i + 4) (i + 1 + 4) (omega arith) (omega arith),
+      ones-next words (i + 1 + 4) (i + 6) (omega arith) (omega arith),
+      ones-next words (i + 6) (i + 1 + 6) (omega arith) (omega arith),
+      ones-next words (i + 1 + 6) (i + 8) (omega arith) (omega arith),
+    )
+
+pub ones-sixteen : (words : List ℕ) (i : ℕ) → i + 16 ≤ length words
+    → onesIn (drop i words)
+    ≡ fourFrom words i + fourFrom words (i + 8) + (fourFrom words (i + 1) + fourFrom words (i + 1 + 8)) + onesIn (drop (i + 16) words)
+ones-sixteen words i h =
+    let odd : i + 8 + 1 ≡ i + 1 + 8 = omega arith in
+    let end : i + 8 + 8 ≡ i + 16 = omega arith in
+    omega (arith, ones-eight words i (omega arith), rw (odd, end) at (ones-eight words (i + 8) (omega arith)))
 
 pub ones-end : (words : List ℕ) (i : ℕ) → length words ≤ i → onesIn (drop i words) ≡ 0
 unfolding onesIn

@@ -1,4 +1,5 @@
 pub mod Digit
+pub mod Adder
 pub mod Bit
 pub mod Count
 pub mod SpareBits

@@ -2,6 +2,7 @@ pub mod Length
 pub mod Bit
 pub mod Spare
 pub mod Count
+pub mod Counter
 pub mod Check
 pub mod Open
 pub mod Memory

@@ -3,12 +3,14 @@ ghost use mathlib.Core.Path.{_≡_};
 ghost use mathlib.Core.Option.{none};
 ghost use Prim.Native.Nat.{_+_, _*_, _<_, _≤_, _^_};
 ghost use mathlib.Core.List.{_++_};
+ghost use lib.Count.{ones};
 ghost use lib.ListN.{length, drop, replicate};
 ghost use Rattle.field.specs.Size.{blockSize};
 ghost use Rattle.intake.specs.Length.{allowedLength, blocksOf, countedOf};
 ghost use Rattle.intake.specs.Bit.{bit, withBit};
 ghost use Rattle.intake.specs.Spare.{spareBit};
 ghost use Rattle.intake.specs.Count.{onesIn, heldCount};
+ghost use Rattle.intake.specs.Counter.{fourFrom, weighed, valueOf};
 ghost use Rattle.intake.specs.Check.{checkedAs, openFault, callFault};
 ghost use Rattle.intake.specs.Open.{openingOf, opening};
 ghost use Rattle.intake.specs.Memory.{memory};
@@ -88,18 +90,125 @@ fn set_bit(map: &mut [u64], block: u64)
     }
 }
 
-// The ones of each word, summed.
+// The ones of a word.
+fn ones_of(word: u64) -> u64
+    ensures { λ r. ⌜ (r ≡ ones word) × (r ≤ 64) ⌝ }
+{
+    u64::count_ones(word) as u64
+}
+
+// What a carry-save adder makes of three words.
+struct SumCarry {
+    sum: u64,
+    carry: u64,
+}
+
+// A carry-save adder: at each place the digits of the three words add up to the sum's digit and twice the carry's.
+fn add_three(a: u64, b: u64, c: u64) -> SumCarry
+    ensures { λ r. ⌜ ones (r .sum) + 2 * ones (r .carry) ≡ ones a + ones b + ones c ⌝ }
+{
+    let half = a ^ b;
+    SumCarry {
+        sum: half ^ c,
+        carry: (a & b) | (half & c),
+    }
+}
+
+// Bit planes: words whose ones stand for 1, 2 and 4.
+struct Planes {
+    ones: u64,
+    twos: u64,
+    fours: u64,
+}
+
+// Four words, every other one from a place on, added to a word of ones and a word of twos.
+fn add_four(low: u64, high: u64, words: &[u64], at: usize) -> Planes
+    requires { ⌜ at + 6 < length (now words) ⌝ }
+    ensures { λ r. ⌜ weighed (r .ones) (r .twos) (r .fours) ≡ ones low + 2 * ones high + fourFrom (now (words .entry)) at ⌝ }
+{
+    let first = add_three(low, words[at], words[at + 2]);
+    let second = add_three(first.sum, words[at + 4], words[at + 6]);
+    let carried = add_three(high, first.carry, second.carry);
+    Planes {
+        ones: second.sum,
+        twos: carried.sum,
+        fours: carried.carry,
+    }
+}
+
+// A Harley-Seal counter: words whose ones stand for 1, 2 and 4, and the number of eights.
+struct Counter {
+    ones: u64,
+    twos: u64,
+    fours: u64,
+    eights: u64,
+}
+
+impl Counter {
+    fn new() -> Self
+        ensures { λ r. ⌜ (valueOf r ≡ 0) × (r .eights ≡ 0) ⌝ }
+    {
+        Counter {
+            ones: 0,
+            twos: 0,
+            fours: 0,
+            eights: 0,
+        }
+    }
+
+    // Counts eight words more, every other one from a place on.
+    fn count(self, words: &[u64], at: usize) -> Self
+        requires { ⌜ (at + 14 < length (now words)) × (self .eights < 2 ^ 60) ⌝ }
+        ensures { λ r. ⌜ (valueOf r ≡ valueOf self + fourFrom (now (words .entry)) at + fourFrom (now (words .entry)) (at + 8)) × (r .eights ≤ self .eights + 64) ⌝ }
+    {
+        let first = add_four(self.ones, self.twos, words, at);
+        let second = add_four(first.ones, first.twos, words, at + 8);
+        let carried = add_three(self.fours, first.fours, second.fours);
+        Counter {
+            ones: second.ones,
+            twos: second.twos,
+            fours: carried.sum,
+            eights: self.eights + ones_of(carried.carry),
+        }
+    }
+
+    fn total(self) -> u64
+        requires { ⌜ self .eights < 2 ^ 60 ⌝ }
+        ensures { λ r. ⌜ (r ≡ valueOf self) × (r ≤ 8 * self .eights + 448) ⌝ }
+    {
+        ones_of(self.ones) + 2 * ones_of(self.twos) + 4 * ones_of(self.fours) + 8 * self.eights
+    }
+}
+
+// The ones of each word, word by word.
+fn ones_by_word(words: &[u64]) -> u64
+    requires { ⌜ length (now words) < 2 ^ 50 ⌝ }
+    ensures { λ r. ⌜ (r ≡ onesIn (now (words .entry))) × (r ≤ 64 * length (now (words .entry))) ⌝ }
+{
+    let mut count: u64 = 0;
+    let mut i = 0;
+    while i < words.len() {
+        count += ones_of(words[i]);
+        i += 1;
+    }
+    count
+}
+
+// The ones of each word, summed: sixteen words a turn, and the rest word by word. The even and the odd words have a
+// counter each, which the compiler makes the two halves of a vector.
 fn ones(words: &[u64]) -> u64
     requires { ⌜ length (now words) < 2 ^ 50 ⌝ }
     ensures { λ r. ⌜ r ≡ onesIn (now (words .entry)) ⌝ }
 {
-    let mut count: u64 = 0;
+    let mut even = Counter::new();
+    let mut odd = Counter::new();
     let mut i: usize = 0;
-    while i < words.len() {
-        count += u64::count_ones(words[i]) as u64;
-        i += 1;
+    while 16 <= words.len() - i {
+        even = even.count(words, i);
+        odd = odd.count(words, i + 1);
+        i += 16;
     }
-    count
+    even.total() + odd.total() + ones_by_word(&words[i..])
 }
 
 // The held count of a file of a given length.

@@ -1,38 +1,46 @@
--- `intake::ones` meets its contract. The invariant: the ones of all words are those counted and those from word i on (proofs/Count).
+-- `intake::ones` meets its contract. The invariant: the ones of all words are those of the two counters and those from word i on (proofs/Count).
 use mathlib.Core.Path.{_≡_}
 use Prim.Native.Nat.{_+_, _-_, _*_, _≤_}
 use native.Mathlib.Omega.{arith}
-use lib.ListN.{length, drop, getD}
-use lib.Count.{ones, ones-le}
+use borrow.Author.Needs.{needs}
+use lib.ListN.{length, drop, length-drop}
+use Rattle.field.proofs.Part.{part-rest}
 use Rattle.intake.specs.Count.{onesIn}
-use Rattle.intake.proofs.Count.{ones-from, ones-end}
+use Rattle.intake.specs.Counter.{valueOf}
+use Rattle.intake.proofs.Count.{ones-sixteen}
 use Rattle.intake.proofs.ones.Statement.{statement}
 use Rattle.intake.proofs.ones.Tie as tie
 
 abbrev Inv-loop : tie.InvT-loop
-Inv-loop words count₀ i₀ count i = (i ≤ length words) × (count ≤ 64 * i) × (onesIn words ≡ count + onesIn (drop i words))
+Inv-loop words even₀ odd₀ i₀ even odd i =
+    (onesIn words ≡ valueOf even + valueOf odd + onesIn (drop i words))
+    × (i ≤ length words)
+    × (even .eights ≤ 4 * i)
+    × (odd .eights ≤ 4 * i)
 
 abbrev μ-loop : tie.MeasureT-loop
-μ-loop words count₀ i₀ count i = length words - i
+μ-loop words even₀ odd₀ i₀ even odd i = length words - i
 
--- a word has at most 64 ones
-word-ones : (c : tie.After-shared-slice-known Inv-loop μ-loop) → ones (getD (c .before .before .before .args .words .now) (c .before .before .loop .i) 0) ≤ 64
-word-ones c = ones-le 64 (getD (c .before .before .before .args .words .now) (c .before .before .loop .i) 0) (c .shared-slice-known .given (c .before .before .loop .i) .fits)
+new-requires : tie.Need-new-requires Inv-loop μ-loop
+new-requires c κs = search needs
+
+new-requires-2 : tie.Need-new-requires-2 Inv-loop μ-loop
+new-requires-2 c κs = search needs
 
 loop-holds : tie.Need-loop-holds Inv-loop μ-loop
 loop-holds c = omega arith
 
-mul-count : tie.Need-mul-count Inv-loop μ-loop
-mul-count c = omega arith
+sub-loop : tie.Need-sub-loop Inv-loop μ-loop
+sub-loop c = omega arith
 
-shared-slice-read-count : tie.Need-shared-slice-read-count Inv-loop μ-loop
-shared-slice-read-count c = omega arith
-
-cast-count : tie.Need-cast-count Inv-loop μ-loop
-cast-count c = let h = word-ones c in omega arith
+count-requires : tie.Need-count-requires Inv-loop μ-loop
+count-requires c κs = omega arith
 
 add-count : tie.Need-add-count Inv-loop μ-loop
-add-count c = let h = word-ones c in omega arith
+add-count c = omega arith
+
+count-requires-2 : tie.Need-count-requires-2 Inv-loop μ-loop
+count-requires-2 c κs = omega arith
 
 add-i : tie.Need-add-i Inv-loop μ-loop
 add-i c = omega arith
@@ -42,11 +50,37 @@ loop-less c = omega arith
 
 loop-again : tie.Need-loop-again Inv-loop μ-loop
 loop-again c =
-    let h = word-ones c in
-    omega (arith, ones-from (c .before .before .before .args .words .now) (c .before .before .loop .i) (c .before .loop-test .taken))
+    omega (arith, ones-sixteen (c .before .before .before .before .before .before .before .args .words .now) (c .before .before .before .loop .i) (omega arith))
+
+total-requires : tie.Need-total-requires Inv-loop μ-loop
+total-requires c κs = omega arith
+
+total-requires-2 : tie.Need-total-requires-2 Inv-loop μ-loop
+total-requires-2 c κs = omega arith
+
+add-result : tie.Need-add-result Inv-loop μ-loop
+add-result c = omega arith
+
+mul-ones-by-word : tie.Need-mul-ones-by-word Inv-loop μ-loop
+mul-ones-by-word c = omega arith
+
+sub-ones-by-word : tie.Need-sub-ones-by-word Inv-loop μ-loop
+sub-ones-by-word c = omega arith
+
+part-ones-by-word-start : tie.Need-part-ones-by-word-start Inv-loop μ-loop
+part-ones-by-word-start c = omega arith
+
+part-ones-by-word-end : tie.Need-part-ones-by-word-end Inv-loop μ-loop
+part-ones-by-word-end c = omega arith
+
+ones-by-word-requires : tie.Need-ones-by-word-requires Inv-loop μ-loop
+ones-by-word-requires c κs = simp (part-rest, length-drop) (omega arith)
+
+add-result-2 : tie.Need-add-result-2 Inv-loop μ-loop
+add-result-2 c = omega (arith, simp (part-rest, length-drop) at (c .ones-by-word .ensures .1))
 
 returns : tie.Need-returns Inv-loop μ-loop
-returns c = omega (arith, ones-end (c .before .before .args .words .now) (c .before .loop .i) (c .loop-test .left))
+returns c = omega (arith, simp part-rest at (c .ones-by-word .ensures .0))
 
 pub ones-spec : {M : Type 1} → statement M
 ones-spec =
@@ -54,12 +88,23 @@ ones-spec =
     (tie.spec
     Inv-loop
     μ-loop
+    new-requires
+    new-requires-2
     loop-holds
-    mul-count
-    shared-slice-read-count
-    cast-count
+    sub-loop
+    count-requires
     add-count
+    count-requires-2
     add-i
     loop-less
     loop-again
+    total-requires
+    total-requires-2
+    add-result
+    mul-ones-by-word
+    sub-ones-by-word
+    part-ones-by-word-start
+    part-ones-by-word-end
+    ones-by-word-requires
+    add-result-2
     returns)
