@@ -1,6 +1,6 @@
 -- The ones of a list of words (specs/Count): word by word, and when one word is replaced.
 --     ones-from      what is left from word i, where there is one
---     ones-sixteen   what is left from word i, where there are sixteen: the even and the odd words
+--     ones-sixteen   what is left from word i, where there are sixteen: four words of every fourth, four times
 --     ones-replace   one word's ones for another's
 --     held-set       the held count when a block's bit is set
 --     held-bound     at most 64 for each counted word
@@ -30,27 +30,27 @@ ones-from words i h = rw (add-one, drop-cons words i 0)
 ones-next : (words : List ℕ) (i j : ℕ) → j ≡ i + 1 → i < length words → onesIn (drop i words) ≡ ones (wordAt words i) + onesIn (drop j words)
 ones-next words i j e h = rw e (ones-from words i h)
 
-ones-eight : (words : List ℕ) (i : ℕ) → i + 8 ≤ length words → onesIn (drop i words) ≡ fourFrom words i + fourFrom words (i + 1) + onesIn (drop (i + 8) words)
-ones-eight words i h =
+ones-four : (words : List ℕ) (i j k l end : ℕ) → j ≡ i + 1 → k ≡ i + 2 → l ≡ i + 3 → end ≡ i + 4 → end ≤ length words
+    → onesIn (drop i words) ≡ ones (wordAt words i) + ones (wordAt words j) + ones (wordAt words k) + ones (wordAt words l) + onesIn (drop end words)
+ones-four words i j k l end ej ek el ee h =
     omega (
       arith,
-      ones-next words i (i + 1) (omega arith) (omega arith),
-      ones-next words (i + 1) (i + 2) (omega arith) (omega arith),
-      ones-next words (i + 2) (i + 1 + 2) (omega arith) (omega arith),
-      ones-next words (i + 1 + 2) (i + 4) (omega arith) (omega arith),
-      ones-next words (i + 4) (i + 1 + 4) (omega arith) (omega arith),
-      ones-next words (i + 1 + 4) (i + 6) (omega arith) (omega arith),
-      ones-next words (i + 6) (i + 1 + 6) (omega arith) (omega arith),
-      ones-next words (i + 1 + 6) (i + 8) (omega arith) (omega arith),
+      ones-next words i j ej (omega arith),
+      ones-next words j k (omega arith) (omega arith),
+      ones-next words k l (omega arith) (omega arith),
+      ones-next words l end (omega arith) (omega arith),
     )
 
 pub ones-sixteen : (words : List ℕ) (i : ℕ) → i + 16 ≤ length words
-    → onesIn (drop i words)
-    ≡ fourFrom words i + fourFrom words (i + 8) + (fourFrom words (i + 1) + fourFrom words (i + 1 + 8)) + onesIn (drop (i + 16) words)
+    → onesIn (drop i words) ≡ fourFrom words i + fourFrom words (i + 1) + fourFrom words (i + 2) + fourFrom words (i + 3) + onesIn (drop (i + 16) words)
 ones-sixteen words i h =
-    let odd : i + 8 + 1 ≡ i + 1 + 8 = omega arith in
-    let end : i + 8 + 8 ≡ i + 16 = omega arith in
-    omega (arith, ones-eight words i (omega arith), rw (odd, end) at (ones-eight words (i + 8) (omega arith)))
+    omega (
+      arith,
+      ones-four words i (i + 1) (i + 2) (i + 3) (i + 4) refl refl refl refl (omega arith),
+      ones-four words (i + 4) (i + 1 + 4) (i + 2 + 4) (i + 3 + 4) (i + 8) (omega arith) (omega arith) (omega arith) (omega arith) (omega arith),
+      ones-four words (i + 8) (i + 1 + 8) (i + 2 + 8) (i + 3 + 8) (i + 12) (omega arith) (omega arith) (omega arith) (omega arith) (omega arith),
+      ones-four words (i + 12) (i + 1 + 12) (i + 2 + 12) (i + 3 + 12) (i + 16) (omega arith) (omega arith) (omega arith) (omega arith) (omega arith),
+    )
 
 pub ones-end : (words : List ℕ) (i : ℕ) → length words ≤ i → onesIn (drop i words) ≡ 0
 unfolding onesIn

@@ -5,13 +5,9 @@ use lib.Count.{ones}
 use Rattle.intake.specs.Bit.{wordAt}
 use Rattle.intake.specs.declared.Counter.{Counter}
 
--- the ones of four words, every other one from a place on
+-- the ones of four words, every fourth one from a place on
 abbrev pub fourFrom : List ℕ → ℕ → ℕ
-fourFrom words at = ones (wordAt words at) + ones (wordAt words (at + 2)) + ones (wordAt words (at + 4)) + ones (wordAt words (at + 6))
-
--- the ones of three words, which stand for 1, 2 and 4
-abbrev pub weighed : ℕ → ℕ → ℕ → ℕ
-weighed one two four = ones one + 2 * ones two + 4 * ones four
+fourFrom words at = ones (wordAt words at) + ones (wordAt words (at + 4)) + ones (wordAt words (at + 8)) + ones (wordAt words (at + 12))
 
 abbrev pub valueOf : Counter → ℕ
-valueOf counter = weighed (counter .ones) (counter .twos) (counter .fours) + 8 * counter .eights
+valueOf counter = ones (counter .ones) + 2 * ones (counter .twos) + 4 * counter .fours

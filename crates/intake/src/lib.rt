@@ -10,7 +10,7 @@ ghost use Rattle.intake.specs.Length.{allowedLength, blocksOf, countedOf
 ghost use Rattle.intake.specs.Bit.{bit, withBit};
 ghost use Rattle.intake.specs.Spare.{spareBit};
 ghost use Rattle.intake.specs.Count.{onesIn, heldCount};
-ghost use Rattle.intake.specs.Counter.{fourFrom, weighed, valueOf};
+ghost use Rattle.intake.specs.Counter.{fourFrom, valueOf};
 ghost use Rattle.intake.specs.Check.{checkedAs, openFault, callFault};
 ghost use Rattle.intake.specs.Open.{openingOf, opening};
 ghost use Rattle.intake.specs.Memory.{memory};
@@ -114,69 +114,44 @@ fn add_three(a: u64, b: u64, c: u64) -> SumCarry
     }
 }
 
-// Bit planes: words whose ones stand for 1, 2 and 4.
-struct Planes {
-    ones: u64,
-    twos: u64,
-    fours: u64,
-}
-
-// Four words, every other one from a place on, added to a word of ones and a word of twos.
-fn add_four(low: u64, high: u64, words: &[u64], at: usize) -> Planes
-    requires { ⌜ at + 6 < length (now words) ⌝ }
-    ensures { λ r. ⌜ weighed (r .ones) (r .twos) (r .fours) ≡ ones low + 2 * ones high + fourFrom (now (words .entry)) at ⌝ }
-{
-    let first = add_three(low, words[at], words[at + 2]);
-    let second = add_three(first.sum, words[at + 4], words[at + 6]);
-    let carried = add_three(high, first.carry, second.carry);
-    Planes {
-        ones: second.sum,
-        twos: carried.sum,
-        fours: carried.carry,
-    }
-}
-
-// A Harley-Seal counter: words whose ones stand for 1, 2 and 4, and the number of eights.
+// A Harley-Seal counter: a word whose ones stand for 1, a word whose ones stand for 2, and the number of fours.
 struct Counter {
     ones: u64,
     twos: u64,
     fours: u64,
-    eights: u64,
 }
 
 impl Counter {
     fn new() -> Self
-        ensures { λ r. ⌜ (valueOf r ≡ 0) × (r .eights ≡ 0) ⌝ }
+        ensures { λ r. ⌜ (valueOf r ≡ 0) × (r .fours ≡ 0) ⌝ }
     {
         Counter {
             ones: 0,
             twos: 0,
             fours: 0,
-            eights: 0,
         }
     }
 
-    // Counts eight words more, every other one from a place on.
+    // Counts four words more, every fourth one from a place on.
     fn count(self, words: &[u64], at: usize) -> Self
-        requires { ⌜ (at + 14 < length (now words)) × (self .eights < 2 ^ 60) ⌝ }
-        ensures { λ r. ⌜ (valueOf r ≡ valueOf self + fourFrom (now (words .entry)) at + fourFrom (now (words .entry)) (at + 8)) × (r .eights ≤ self .eights + 64) ⌝ }
+        requires { ⌜ (at + 12 < length (now words)) × (self .fours < 2 ^ 60) ⌝ }
+        ensures { λ r. ⌜ (valueOf r ≡ valueOf self + fourFrom (now (words .entry)) at) × (r .fours ≤ self .fours + 64) ⌝ }
     {
-        let first = add_four(self.ones, self.twos, words, at);
-        let second = add_four(first.ones, first.twos, words, at + 8);
-        let carried = add_three(self.fours, first.fours, second.fours);
+        let first = add_three(self.ones, words[at], words[at + 4]);
+        let second = add_three(first.sum, words[at + 8], words[at + 12]);
+        let carried = add_three(self.twos, first.carry, second.carry);
         Counter {
-            ones: second.ones,
-            twos: second.twos,
-            fours: carried.sum,
-            eights: self.eights + ones_of(carried.carry),
+            ones: second.sum,
+            twos: carried.sum,
+            fours: self.fours + ones_of(carried.carry),
         }
     }
 
     fn total(self) -> u64
-        requires { ⌜ self .eights < 2 ^ 60 ⌝ }
-        ensures { λ r. ⌜ (r ≡ valueOf self) × (r ≤ 8 * self .eights + 448) ⌝ }
+        requires { ⌜ self .fours < 2 ^ 60 ⌝ }
+        ensures { λ r. ⌜ (r ≡ valueOf self) × (r ≤ 4 * self .fours + 192) ⌝ }
     {
-        ones_of(self.ones) + 2 * ones_of(self.twos) + 4 * ones_of(self.fours) + 8 * self.eights
+        ones_of(self.ones) + 2 * ones_of(self.twos) + 4 * self.fours
     }
 }
 
@@ -194,21 +169,25 @@ fn ones_by_word(words: &[u64]) -> u64
     count
 }
 
-// The ones of each word, summed: sixteen words a turn, and the rest word by word. The even and the odd words have a
-// counter each, which the compiler makes the two halves of a vector.
+// The ones of each word, summed: sixteen words a turn, and the rest word by word. With four counters the compiler uses
+// vectors also where this is inlined; with two it does not.
 fn ones(words: &[u64]) -> u64
     requires { ⌜ length (now words) < 2 ^ 50 ⌝ }
     ensures { λ r. ⌜ r ≡ onesIn (now (words .entry)) ⌝ }
 {
-    let mut even = Counter::new();
-    let mut odd = Counter::new();
+    let mut a = Counter::new();
+    let mut b = Counter::new();
+    let mut c = Counter::new();
+    let mut d = Counter::new();
     let mut i: usize = 0;
     while 16 <= words.len() - i {
-        even = even.count(words, i);
-        odd = odd.count(words, i + 1);
+        a = a.count(words, i);
+        b = b.count(words, i + 1);
+        c = c.count(words, i + 2);
+        d = d.count(words, i + 3);
         i += 16;
     }
-    even.total() + odd.total() + ones_by_word(&words[i..])
+    a.total() + b.total() + c.total() + d.total() + ones_by_word(&words[i..])
 }
 
 // The held count of a file of a given length.

@@ -1,4 +1,4 @@
--- `intake::ones` meets its contract. The invariant: the ones of all words are those of the two counters and those from word i on (proofs/Count).
+-- `intake::ones` meets its contract. The invariant: the ones of all words are those of the four counters and those from word i on (proofs/Count).
 use mathlib.Core.Path.{_≡_}
 use Prim.Native.Nat.{_+_, _-_, _*_, _≤_}
 use native.Mathlib.Omega.{arith}
@@ -12,20 +12,28 @@ use Rattle.intake.proofs.ones.Statement.{statement}
 use Rattle.intake.proofs.ones.Tie as tie
 
 abbrev Inv-loop : tie.InvT-loop
-Inv-loop words even₀ odd₀ i₀ even odd i =
-    (onesIn words ≡ valueOf even + valueOf odd + onesIn (drop i words))
+Inv-loop words a₀ b₀ c₀ d₀ i₀ a b c d i =
+    (onesIn words ≡ valueOf a + valueOf b + valueOf c + valueOf d + onesIn (drop i words))
     × (i ≤ length words)
-    × (even .eights ≤ 4 * i)
-    × (odd .eights ≤ 4 * i)
+    × (a .fours ≤ 4 * i)
+    × (b .fours ≤ 4 * i)
+    × (c .fours ≤ 4 * i)
+    × (d .fours ≤ 4 * i)
 
 abbrev μ-loop : tie.MeasureT-loop
-μ-loop words even₀ odd₀ i₀ even odd i = length words - i
+μ-loop words a₀ b₀ c₀ d₀ i₀ a b c d i = length words - i
 
 new-requires : tie.Need-new-requires Inv-loop μ-loop
 new-requires c κs = search needs
 
 new-requires-2 : tie.Need-new-requires-2 Inv-loop μ-loop
 new-requires-2 c κs = search needs
+
+new-requires-3 : tie.Need-new-requires-3 Inv-loop μ-loop
+new-requires-3 c κs = search needs
+
+new-requires-4 : tie.Need-new-requires-4 Inv-loop μ-loop
+new-requires-4 c κs = search needs
 
 loop-holds : tie.Need-loop-holds Inv-loop μ-loop
 loop-holds c = omega arith
@@ -42,6 +50,18 @@ add-count c = omega arith
 count-requires-2 : tie.Need-count-requires-2 Inv-loop μ-loop
 count-requires-2 c κs = omega arith
 
+add-count-2 : tie.Need-add-count-2 Inv-loop μ-loop
+add-count-2 c = omega arith
+
+count-requires-3 : tie.Need-count-requires-3 Inv-loop μ-loop
+count-requires-3 c κs = omega arith
+
+add-count-3 : tie.Need-add-count-3 Inv-loop μ-loop
+add-count-3 c = omega arith
+
+count-requires-4 : tie.Need-count-requires-4 Inv-loop μ-loop
+count-requires-4 c κs = omega arith
+
 add-i : tie.Need-add-i Inv-loop μ-loop
 add-i c = omega arith
 
@@ -50,7 +70,7 @@ loop-less c = omega arith
 
 loop-again : tie.Need-loop-again Inv-loop μ-loop
 loop-again c =
-    omega (arith, ones-sixteen (c .before .before .before .before .before .before .before .args .words .now) (c .before .before .before .loop .i) (omega arith))
+    omega (arith, ones-sixteen (c .before .before .before .before .before .before .before .before .before .before .before .args .words .now) (c .before .before .before .before .before .loop .i) (omega arith))
 
 total-requires : tie.Need-total-requires Inv-loop μ-loop
 total-requires c κs = omega arith
@@ -60,6 +80,18 @@ total-requires-2 c κs = omega arith
 
 add-result : tie.Need-add-result Inv-loop μ-loop
 add-result c = omega arith
+
+total-requires-3 : tie.Need-total-requires-3 Inv-loop μ-loop
+total-requires-3 c κs = omega arith
+
+add-result-2 : tie.Need-add-result-2 Inv-loop μ-loop
+add-result-2 c = omega arith
+
+total-requires-4 : tie.Need-total-requires-4 Inv-loop μ-loop
+total-requires-4 c κs = omega arith
+
+add-result-3 : tie.Need-add-result-3 Inv-loop μ-loop
+add-result-3 c = omega arith
 
 mul-ones-by-word : tie.Need-mul-ones-by-word Inv-loop μ-loop
 mul-ones-by-word c = omega arith
@@ -76,8 +108,8 @@ part-ones-by-word-end c = omega arith
 ones-by-word-requires : tie.Need-ones-by-word-requires Inv-loop μ-loop
 ones-by-word-requires c κs = simp (part-rest, length-drop) (omega arith)
 
-add-result-2 : tie.Need-add-result-2 Inv-loop μ-loop
-add-result-2 c = omega (arith, simp (part-rest, length-drop) at (c .ones-by-word .ensures .1))
+add-result-4 : tie.Need-add-result-4 Inv-loop μ-loop
+add-result-4 c = omega (arith, simp (part-rest, length-drop) at (c .ones-by-word .ensures .1))
 
 returns : tie.Need-returns Inv-loop μ-loop
 returns c = omega (arith, simp part-rest at (c .ones-by-word .ensures .0))
@@ -90,21 +122,31 @@ ones-spec =
     μ-loop
     new-requires
     new-requires-2
+    new-requires-3
+    new-requires-4
     loop-holds
     sub-loop
     count-requires
     add-count
     count-requires-2
+    add-count-2
+    count-requires-3
+    add-count-3
+    count-requires-4
     add-i
     loop-less
     loop-again
     total-requires
     total-requires-2
     add-result
+    total-requires-3
+    add-result-2
+    total-requires-4
+    add-result-3
     mul-ones-by-word
     sub-ones-by-word
     part-ones-by-word-start
     part-ones-by-word-end
     ones-by-word-requires
-    add-result-2
+    add-result-4
     returns)
