@@ -1,11 +1,11 @@
 //! The reference itself. Its files follow the sections of document 01.
 
-mod book;
 pub(crate) mod bytes;
 mod chain;
 mod directory;
 mod page;
 mod question;
+mod received;
 mod refusal;
 mod row;
 mod session;
@@ -13,9 +13,9 @@ mod source;
 mod string;
 mod table;
 
-pub use book::Book;
 pub use page::{entries, index_size, GROUP_SIZE, PAGE_HEADER};
 pub use question::{RecordReply, Rows, TextReply};
+pub use received::Received;
 pub use refusal::Refusal;
 pub use session::{Delivered, Session, BLOCK_SIZE};
 pub use string::{read_string, Encoding, StringText};

@@ -20,7 +20,7 @@ pub enum Delivered {
     Same(u64),
 }
 
-/// The lent image and map, and the record of the last opening not refused.
+/// The image and map, and the record of the last opening not refused.
 ///
 /// ```
 /// use sarvoltig_reference::model::{Delivered, Refusal, Rows, Session};
@@ -84,12 +84,12 @@ impl Session {
         }
     }
 
-    /// The lent image.
+    /// The image.
     pub fn image(&self) -> &[u8] {
         &self.image
     }
 
-    /// The lent map.
+    /// The map.
     pub fn map(&self) -> &[u64] {
         &self.map
     }

@@ -1,8 +1,8 @@
-//! Document 01, "Runs": a session is checked against the book.
+//! Document 01, "Runs": a session is checked against the received blocks.
 
 use std::collections::HashMap;
 
-use sarvoltig_reference::model::{Book, Delivered, Refusal, Rows, Session, Table, BLOCK_SIZE};
+use sarvoltig_reference::model::{Delivered, Received, Refusal, Rows, Session, Table, BLOCK_SIZE};
 use sarvoltig_reference::rng::Rng;
 use sarvoltig_reference::schedule::{random_file, schedule, Answer, Call, Reply};
 
@@ -18,30 +18,30 @@ fn run_calls(file: &[u8], rng: &mut Rng) -> Vec<Call> {
     calls
 }
 
-/// What the book says of a call, before the call is entered.
-fn answer_by_book(book: &Book, call: &Call) -> Option<Answer> {
+/// What the received blocks say of a call, before the call is entered.
+fn answer_by_received(received: &Received, call: &Call) -> Option<Answer> {
     let mut list = Vec::new();
     let reply = match *call {
         Call::Lend { .. } | Call::Word { .. } | Call::Open { .. } => return None,
-        Call::Deliver { block, ref piece } => delivered_by_book(book, block, piece),
+        Call::Deliver { block, ref piece } => delivered_by_received(received, block, piece),
         Call::Rows { table, room } => {
             list = vec![0xeeee_eeee; room];
-            book.rows(table, &mut list).map(Reply::Rows)
+            received.rows(table, &mut list).map(Reply::Rows)
         }
-        Call::Record { table, k } => book
+        Call::Record { table, k } => received
             .record(table, k)
             .map(|reply| Reply::Record(table, reply)),
-        Call::Text { table, k, slot } => book.text(table, k, slot).map(Reply::Text),
+        Call::Text { table, k, slot } => received.text(table, k, slot).map(Reply::Text),
     };
     Some(Answer { reply, list })
 }
 
-fn delivered_by_book(book: &Book, block: u64, piece: &[u8]) -> Result<Reply, Refusal> {
-    let mut after = book.clone();
+fn delivered_by_received(received: &Received, block: u64, piece: &[u8]) -> Result<Reply, Refusal> {
+    let mut after = received.clone();
     after.deliver(block, piece);
-    let in_book = after.block(block as usize);
-    let number = match in_book {
-        Some(first) if first == piece && book.held_count() < after.held_count() => {
+    let first_piece = after.block(block as usize);
+    let number = match first_piece {
+        Some(first) if first == piece && received.held_count() < after.held_count() => {
             return Ok(Reply::Delivered(Delivered::New(after.held_count())));
         }
         Some(first) if first == piece => {
@@ -63,12 +63,12 @@ fn any_buffers(file: &[u8], rng: &mut Rng) -> (Vec<u8>, Vec<u64>) {
     )
 }
 
-/// The buffers at the end of a run, from the buffers before and the book.
-fn buffers_by_book(book: &Book, file_len: usize, image: &mut [u8], map: &mut [u64]) {
+/// The buffers at the end of a run, from the buffers before and the received blocks.
+fn buffers_by_received(received: &Received, file_len: usize, image: &mut [u8], map: &mut [u64]) {
     let blocks = file_len / BLOCK_SIZE;
     map[..blocks.div_ceil(64)].fill(0);
     for number in 0..blocks {
-        if let Some(block) = book.block(number) {
+        if let Some(block) = received.block(number) {
             image[number * BLOCK_SIZE..][..BLOCK_SIZE].copy_from_slice(block);
             map[number / 64] |= 1 << (number % 64);
         }
@@ -76,7 +76,7 @@ fn buffers_by_book(book: &Book, file_len: usize, image: &mut [u8], map: &mut [u6
 }
 
 #[test]
-fn each_answer_and_the_buffers_at_the_end_are_what_the_book_says() {
+fn each_answer_and_the_buffers_at_the_end_are_what_the_received_blocks_say() {
     for seed in 0..300 {
         let rng = &mut Rng::new(seed);
         let file = random_file(rng);
@@ -85,18 +85,19 @@ fn each_answer_and_the_buffers_at_the_end_are_what_the_book_says() {
         session
             .open(file.len() as u64)
             .expect("the buffers are long enough");
-        let mut book = Book::open(file.len() as u64).expect("an export's length is allowed");
+        let mut received =
+            Received::open(file.len() as u64).expect("an export's length is allowed");
         for call in run_calls(&file, rng) {
-            let mut expected = answer_by_book(&book, &call);
+            let mut expected = answer_by_received(&received, &call);
             if let Call::Deliver { block, ref piece } = call {
                 if block >= (file.len() / BLOCK_SIZE) as u64 {
                     expected = Some(refused_answer(5));
                 }
-                book.deliver(block, piece);
+                received.deliver(block, piece);
             }
             assert_eq!(call.make(&mut session), expected, "{}", call.to_line());
         }
-        buffers_by_book(&book, file.len(), &mut image, &mut map);
+        buffers_by_received(&received, file.len(), &mut image, &mut map);
         assert_eq!(session.image(), image);
         assert_eq!(session.map(), map);
     }
@@ -122,14 +123,14 @@ fn all_answers(session: &mut Session) -> Vec<Answer> {
     calls.iter().filter_map(|call| call.make(session)).collect()
 }
 
-/// A run with the deliveries that make this book, in another order.
-fn run_of_book(book: &Book, blocks: usize, rng: &mut Rng) -> Vec<Call> {
+/// A run with the deliveries that bring these blocks, in another order.
+fn run_of_received(received: &Received, blocks: usize, rng: &mut Rng) -> Vec<Call> {
     let mut numbers: Vec<usize> = (0..blocks).collect();
     rng.shuffle(&mut numbers);
     numbers
         .into_iter()
         .filter_map(|number| {
-            let piece = book.block(number)?.to_vec();
+            let piece = received.block(number)?.to_vec();
             let block = number as u64;
             Some(Call::Deliver { block, piece })
         })
@@ -137,32 +138,33 @@ fn run_of_book(book: &Book, blocks: usize, rng: &mut Rng) -> Vec<Call> {
 }
 
 #[test]
-fn two_runs_with_equal_books_end_alike() {
+fn two_runs_with_equal_received_blocks_end_alike() {
     for seed in 1000..1200 {
         let rng = &mut Rng::new(seed);
         let file = random_file(rng);
         let (image, map) = any_buffers(&file, rng);
         let mut one = Session::new(image, map);
         let mut other = one.clone();
-        let mut book = Book::open(file.len() as u64).expect("an export's length is allowed");
+        let mut received =
+            Received::open(file.len() as u64).expect("an export's length is allowed");
         one.open(file.len() as u64)
             .expect("the buffers are long enough");
         for call in run_calls(&file, rng) {
             call.make(&mut one);
             if let Call::Deliver { block, piece } = &call {
-                book.deliver(*block, piece);
+                received.deliver(*block, piece);
             }
         }
         other
             .open(file.len() as u64)
             .expect("the buffers are long enough");
-        for call in run_of_book(&book, file.len() / BLOCK_SIZE, rng) {
+        for call in run_of_received(&received, file.len() / BLOCK_SIZE, rng) {
             call.make(&mut other);
         }
         assert_eq!(one.image(), other.image());
         assert_eq!(one.map(), other.map());
         assert_eq!(all_answers(&mut one), all_answers(&mut other));
-        if let Some(whole_file) = book.whole_file() {
+        if let Some(whole_file) = received.whole_file() {
             assert_eq!(one.image()[..file.len()], whole_file);
         }
     }

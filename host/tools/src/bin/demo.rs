@@ -1,7 +1,7 @@
 //! `demo FILE [--late N] [--repeated N] [--harsh] [--seed N] [--pause MS]`: the main job on a terminal.
 //!
 //! The file's blocks arrive out of order, some late and some repeated (N of a hundred). The display shows the blocks
-//! held and the rows known of each table, and at the end the playlists with their tracks. A row once shown is never
+//! held and the rows known of each table, and at the end the playlists with their tracks. A row once listed is never
 //! taken back: each answer is compared with the one before.
 
 use sarvoltig::{map_words, Delivered, Intake, Record, Refusal, Table, Text, Track, Walk, BLOCK};
@@ -115,9 +115,9 @@ fn damaged(block: usize, piece: &[u8], blocks: usize, rng: &mut Rng) -> Arrival 
     }
 }
 
-/// The rows shown of each table, and what the deliveries were.
+/// The places listed of each table, and how many deliveries did what.
 #[derive(Default)]
-struct Shown {
+struct Progress {
     places: HashMap<Table, Vec<u32>>,
     new: u64,
     same: u64,
@@ -151,13 +151,13 @@ fn bar(held: u64, blocks: u64) -> String {
 }
 
 /// A table's line: its rows and where the walk stands. Rows that an earlier answer had must stay first.
-fn table_line(intake: &Intake, table: Table, shown: &mut Shown) -> String {
+fn table_line(intake: &Intake, table: Table, progress: &mut Progress) -> String {
     let name = format!("{table:?}");
     match intake.rows(table) {
         Ok(rows) => {
             let walk = rows.walk();
             let places: Vec<u32> = rows.map(|row| row.place()).collect();
-            let before = shown
+            let before = progress
                 .places
                 .insert(table, places.clone())
                 .unwrap_or_default();
@@ -174,22 +174,22 @@ fn table_line(intake: &Intake, table: Table, shown: &mut Shown) -> String {
     }
 }
 
-fn picture(intake: &Intake, held: u64, shown: &mut Shown) -> Vec<String> {
+fn picture(intake: &Intake, held: u64, progress: &mut Progress) -> Vec<String> {
     let blocks = intake.blocks();
     let mut lines = vec![format!(
         "{} {held} of {blocks} blocks held; {} new, {} repeated, {} refused",
         bar(held, blocks),
-        shown.new,
-        shown.same,
-        shown.refused
+        progress.new,
+        progress.same,
+        progress.refused
     )];
-    lines.extend(Table::ALL.map(|table| table_line(intake, table, shown)));
+    lines.extend(Table::ALL.map(|table| table_line(intake, table, progress)));
     lines
 }
 
 /// Takes the arrivals in and draws as they come.
 fn take_in(intake: &mut Intake, arrivals: &[Arrival], pause: u64) -> io::Result<()> {
-    let mut shown = Shown::default();
+    let mut progress = Progress::default();
     let mut screen = Screen {
         terminal: io::stdout().is_terminal(),
         lines: 0,
@@ -205,14 +205,14 @@ fn take_in(intake: &mut Intake, arrivals: &[Arrival], pause: u64) -> io::Result<
             Ok(delivered) => {
                 held = delivered.held();
                 match delivered {
-                    Delivered::New(_) => shown.new += 1,
-                    Delivered::Same(_) => shown.same += 1,
+                    Delivered::New(_) => progress.new += 1,
+                    Delivered::Same(_) => progress.same += 1,
                 }
             }
-            Err(_) => shown.refused += 1,
+            Err(_) => progress.refused += 1,
         }
         if count % every.max(1) == 0 || count == arrivals.len() {
-            screen.draw(&picture(intake, held, &mut shown))?;
+            screen.draw(&picture(intake, held, &mut progress))?;
             if screen.terminal {
                 sleep(Duration::from_millis(pause));
             }

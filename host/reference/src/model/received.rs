@@ -1,4 +1,4 @@
-//! Document 01, "Runs": the book, kept without record, image and map.
+//! Document 01, "Runs": the received blocks, which it calls the book, kept without record, image and map.
 
 use std::borrow::Cow;
 
@@ -7,34 +7,34 @@ use super::session::block_count;
 use super::source::Source;
 use super::{Refusal, BLOCK_SIZE};
 
-/// The book of a run, kept from the arguments of its opening and deliveries.
-/// The questions are answered from L, the book and the list.
+/// The received blocks of a run, kept from the arguments of its opening and deliveries.
+/// The questions are answered from L, the received blocks and the list.
 ///
 /// ```
-/// use sarvoltig_reference::model::Book;
+/// use sarvoltig_reference::model::Received;
 ///
-/// let mut book = Book::open(1024)?;
-/// book.deliver(1, &[7; 512]);
-/// book.deliver(1, &[8; 512]);
-/// book.deliver(2, &[7; 512]);
-/// assert_eq!(book.block(1), Some(&[7; 512]));
-/// assert_eq!(book.held_count(), 1);
+/// let mut received = Received::open(1024)?;
+/// received.deliver(1, &[7; 512]);
+/// received.deliver(1, &[8; 512]);
+/// received.deliver(2, &[7; 512]);
+/// assert_eq!(received.block(1), Some(&[7; 512]));
+/// assert_eq!(received.held_count(), 1);
 /// # Ok::<(), sarvoltig_reference::model::Refusal>(())
 /// ```
 #[derive(Clone, Debug, PartialEq, Eq)]
-pub struct Book {
+pub struct Received {
     blocks: Vec<Option<[u8; BLOCK_SIZE]>>,
 }
 
-impl Book {
-    /// The book of a run that opens a file of `len` bytes.
+impl Received {
+    /// The received blocks of a run that opens a file of `len` bytes.
     ///
     /// # Errors
     ///
     /// Refusal 1, when no run has this length.
     pub fn open(len: u64) -> Result<Self, Refusal> {
         let blocks = block_count(len)?;
-        Ok(Book {
+        Ok(Received {
             blocks: vec![None; blocks as usize],
         })
     }
@@ -49,24 +49,24 @@ impl Book {
         }
     }
 
-    /// The block of a number, if the book has it.
+    /// The block of a number, if it is received.
     pub fn block(&self, block: usize) -> Option<&[u8; BLOCK_SIZE]> {
         self.blocks.get(block)?.as_ref()
     }
 
-    /// The number of blocks in the book.
+    /// How many they are.
     pub fn held_count(&self) -> u64 {
         self.blocks.iter().flatten().count() as u64
     }
 
-    /// The whole file, when the book has every block.
+    /// The whole file, when every block is received.
     ///
     /// ```
-    /// # use sarvoltig_reference::model::Book;
-    /// let mut book = Book::open(512)?;
-    /// assert_eq!(book.whole_file(), None);
-    /// book.deliver(0, &[7; 512]);
-    /// assert_eq!(book.whole_file(), Some(vec![7; 512]));
+    /// # use sarvoltig_reference::model::Received;
+    /// let mut received = Received::open(512)?;
+    /// assert_eq!(received.whole_file(), None);
+    /// received.deliver(0, &[7; 512]);
+    /// assert_eq!(received.whole_file(), Some(vec![7; 512]));
     /// # Ok::<(), sarvoltig_reference::model::Refusal>(())
     /// ```
     pub fn whole_file(&self) -> Option<Vec<u8>> {
@@ -101,7 +101,7 @@ impl Book {
     }
 }
 
-impl Source for Book {
+impl Source for Received {
     fn file_len(&self) -> u64 {
         (self.blocks.len() * BLOCK_SIZE) as u64
     }
