@@ -1,10 +1,12 @@
-//! `demo FILE [--late N] [--repeated N] [--harsh] [--seed N] [--pause MS]`: the main job on a terminal.
+//! `demo FILE [--late N] [--repeated N] [--harsh] [--seed N] [--pause MS] [--tracks N]`: the main job on a terminal.
 //!
 //! The file's blocks arrive out of order, some late and some repeated (N of a hundred). The display shows the blocks
 //! held and the rows known of each table, and at the end the playlists with their tracks. A row once listed is never
 //! taken back: each answer is compared with the one before.
 
-use sarvoltig::{map_words, Delivered, Intake, Record, Refusal, Table, Text, Track, Walk, BLOCK};
+use sarvoltig::{
+    map_words, Delivered, Intake, Record, Refusal, Row, Table, Text, Track, Walk, BLOCK,
+};
 use sarvoltig_reference::rng::Rng;
 use std::collections::{HashMap, HashSet};
 use std::io::{self, IsTerminal, Write};
@@ -12,9 +14,8 @@ use std::process::ExitCode;
 use std::thread::sleep;
 use std::time::Duration;
 
-const USAGE: &str = "usage: demo FILE [--late N] [--repeated N] [--harsh] [--seed N] [--pause MS]";
-/// Where a track's id stands in its row.
-const TRACK_ID: usize = 0x48;
+const USAGE: &str =
+    "usage: demo FILE [--late N] [--repeated N] [--harsh] [--seed N] [--pause MS] [--tracks N]";
 const BAR: usize = 40;
 
 /// What the command line asks for.
@@ -25,6 +26,7 @@ struct Options {
     damaged: u64,
     seed: u64,
     pause: u64,
+    tracks: usize,
 }
 
 impl Options {
@@ -37,6 +39,7 @@ impl Options {
             damaged: 0,
             seed: 1,
             pause: 15,
+            tracks: 20,
         };
         while let Some(word) = words.next() {
             let mut number = || words.next()?.parse().ok();
@@ -45,6 +48,7 @@ impl Options {
                 "--repeated" => options.repeated = number()?,
                 "--seed" => options.seed = number()?,
                 "--pause" => options.pause = number()?,
+                "--tracks" => options.tracks = number()? as usize,
                 "--harsh" => (options.late, options.repeated, options.damaged) = (70, 40, 20),
                 _ => return None,
             }
@@ -269,21 +273,20 @@ fn nodes(intake: &Intake) -> Result<Vec<Node>, Refusal> {
     Ok(nodes)
 }
 
+/// A four-byte number of a row, read where the row was found: a record question for each row would walk the table each time.
+fn number(intake: &Intake, row: &Row, offset: usize) -> u32 {
+    let at = row.place() as usize + offset;
+    let bytes = intake.image()[at..at + 4].iter();
+    bytes.rev().fold(0, |number, &b| number << 8 | u32::from(b))
+}
+
 /// The tracks of each playlist in their order, by id.
 fn entries(intake: &Intake) -> Result<HashMap<u32, Vec<(u32, u32)>>, Refusal> {
     let mut lists: HashMap<u32, Vec<(u32, u32)>> = HashMap::new();
     for row in intake.rows(Table::PlaylistEntries)? {
-        if let Record::PlaylistEntry {
-            entry_index,
-            track_id,
-            playlist_id,
-        } = row.record()?
-        {
-            lists
-                .entry(playlist_id)
-                .or_default()
-                .push((entry_index, track_id));
-        }
+        let [index, track, playlist] =
+            [0x00, 0x04, 0x08].map(|offset| number(intake, &row, offset));
+        lists.entry(playlist).or_default().push((index, track));
     }
     lists.values_mut().for_each(|list| list.sort_unstable());
     Ok(lists)
@@ -293,12 +296,9 @@ fn entries(intake: &Intake) -> Result<HashMap<u32, Vec<(u32, u32)>>, Refusal> {
 fn track_rows(intake: &Intake) -> Result<HashMap<u32, u64>, Refusal> {
     let mut numbers = HashMap::new();
     for row in intake.rows(Table::Tracks)? {
-        let at = row.place() as usize + TRACK_ID;
-        let id = intake.image()[at..at + 4]
-            .iter()
-            .rev()
-            .fold(0, |id, &b| id << 8 | u32::from(b));
-        numbers.entry(id).or_insert(row.number());
+        numbers
+            .entry(number(intake, &row, 0x48))
+            .or_insert(row.number());
     }
     Ok(numbers)
 }
@@ -322,22 +322,18 @@ fn menu(nodes: &[Node]) -> Vec<(usize, &Node)> {
     menu
 }
 
-/// The playlists with their tracks, folders opened out.
-fn playlists(intake: &Intake) -> Result<(), Refusal> {
+/// The playlists with their tracks, at most so many of each, folders opened out.
+fn playlists(intake: &Intake, most: usize) -> Result<(), Refusal> {
     let (nodes, entries, tracks) = (nodes(intake)?, entries(intake)?, track_rows(intake)?);
     for (level, node) in menu(&nodes) {
-        println!(
-            "{}{}{}",
-            "  ".repeat(level),
-            node.name,
-            if node.folder { "/" } else { "" }
-        );
-        for (index, id) in entries
+        let mark = if node.folder { "/" } else { "" };
+        println!("{}{}{mark}", "  ".repeat(level), node.name);
+        let margin = "  ".repeat(level + 1);
+        let list = entries
             .get(&node.id)
             .filter(|_| !node.folder)
-            .into_iter()
-            .flatten()
-        {
+            .map_or(&[][..], Vec::as_slice);
+        for (index, id) in list.iter().take(most) {
             let title = match tracks.get(id) {
                 Some(&k) => intake
                     .text(Table::Tracks, k, Track::TITLE)?
@@ -346,7 +342,13 @@ fn playlists(intake: &Intake) -> Result<(), Refusal> {
                 None => None,
             };
             let title = title.unwrap_or_else(|| format!("track {id} is missing"));
-            println!("{}{index:>4}  {title}", "  ".repeat(level + 1));
+            println!("{margin}{index:>4}  {title}");
+        }
+        if list.len() > most {
+            println!(
+                "{margin}      and {} more (--tracks N lists N of each)",
+                list.len() - most
+            );
         }
     }
     Ok(())
@@ -360,7 +362,8 @@ fn run(options: &Options) -> Result<(), String> {
         .map_err(|e| format!("{}: refused {}: {e}", options.file, e.number()))?;
     take_in(&mut intake, &arrivals(&file, options), options.pause).map_err(|e| e.to_string())?;
     println!();
-    playlists(&intake).map_err(|e| format!("{}: refused {}: {e}", options.file, e.number()))
+    playlists(&intake, options.tracks)
+        .map_err(|e| format!("{}: refused {}: {e}", options.file, e.number()))
 }
 
 fn main() -> ExitCode {
