@@ -255,46 +255,61 @@ static int compare_tracks(const void *a, const void *b)
     return compare(((const Track *)a)->id, ((const Track *)b)->id);
 }
 
-/* Reads the three tables: the tree by parent, the entries by playlist, the tracks by id. */
-static Library read_library(const Intake *intake)
+/* The rows of the playlist tree, by parent. */
+static void read_nodes(const Intake *intake, Library *library)
 {
+    static const char name[] = "playlist tree";
     uint64_t result[SARVOLTIG_RESULT];
-    Library library;
     size_t k;
 
-    library.node_count = count_rows(intake, SARVOLTIG_PLAYLIST_TREE, "playlist tree");
-    library.nodes = (Node *)reserve(library.node_count, sizeof *library.nodes);
-    for (k = 0; k < library.node_count; k++) {
-        Node *node = &library.nodes[k];
+    library->node_count = count_rows(intake, SARVOLTIG_PLAYLIST_TREE, name);
+    library->nodes = (Node *)reserve(library->node_count, sizeof *library->nodes);
+    for (k = 0; k < library->node_count; k++) {
+        Node *node = &library->nodes[k];
 
-        read_record(intake, SARVOLTIG_PLAYLIST_TREE, "playlist tree", k, result);
+        read_record(intake, SARVOLTIG_PLAYLIST_TREE, name, k, result);
         node->k = k;
         node->parent = result[SARVOLTIG_NODE_PARENT_ID];
         node->order = result[SARVOLTIG_NODE_SORT_ORDER];
         node->id = result[SARVOLTIG_NODE_ID];
         node->is_folder = result[SARVOLTIG_NODE_RAW_IS_FOLDER] != 0;
     }
-    qsort(library.nodes, library.node_count, sizeof *library.nodes, compare_nodes);
+    qsort(library->nodes, library->node_count, sizeof *library->nodes, compare_nodes);
+}
 
-    library.entry_count = count_rows(intake, SARVOLTIG_PLAYLIST_ENTRIES, "playlist entries");
-    library.entries = (Entry *)reserve(library.entry_count, sizeof *library.entries);
-    for (k = 0; k < library.entry_count; k++) {
-        read_record(intake, SARVOLTIG_PLAYLIST_ENTRIES, "playlist entries", k, result);
-        library.entries[k].playlist = result[SARVOLTIG_ENTRY_PLAYLIST_ID];
-        library.entries[k].index = result[SARVOLTIG_ENTRY_INDEX];
-        library.entries[k].track = result[SARVOLTIG_ENTRY_TRACK_ID];
-    }
-    qsort(library.entries, library.entry_count, sizeof *library.entries, compare_entries);
+/* The entries of all playlists, by playlist. */
+static void read_entries(const Intake *intake, Library *library)
+{
+    static const char name[] = "playlist entries";
+    uint64_t result[SARVOLTIG_RESULT];
+    size_t k;
 
-    library.track_count = count_rows(intake, SARVOLTIG_TRACKS, "tracks");
-    library.tracks = (Track *)reserve(library.track_count, sizeof *library.tracks);
-    for (k = 0; k < library.track_count; k++) {
-        read_record(intake, SARVOLTIG_TRACKS, "tracks", k, result);
-        library.tracks[k].k = k;
-        library.tracks[k].id = result[SARVOLTIG_TRACK_ID];
+    library->entry_count = count_rows(intake, SARVOLTIG_PLAYLIST_ENTRIES, name);
+    library->entries = (Entry *)reserve(library->entry_count, sizeof *library->entries);
+    for (k = 0; k < library->entry_count; k++) {
+        read_record(intake, SARVOLTIG_PLAYLIST_ENTRIES, name, k, result);
+        library->entries[k].playlist = result[SARVOLTIG_ENTRY_PLAYLIST_ID];
+        library->entries[k].index = result[SARVOLTIG_ENTRY_INDEX];
+        library->entries[k].track = result[SARVOLTIG_ENTRY_TRACK_ID];
     }
-    qsort(library.tracks, library.track_count, sizeof *library.tracks, compare_tracks);
-    return library;
+    qsort(library->entries, library->entry_count, sizeof *library->entries, compare_entries);
+}
+
+/* The tracks, by id. */
+static void read_tracks(const Intake *intake, Library *library)
+{
+    static const char name[] = "tracks";
+    uint64_t result[SARVOLTIG_RESULT];
+    size_t k;
+
+    library->track_count = count_rows(intake, SARVOLTIG_TRACKS, name);
+    library->tracks = (Track *)reserve(library->track_count, sizeof *library->tracks);
+    for (k = 0; k < library->track_count; k++) {
+        read_record(intake, SARVOLTIG_TRACKS, name, k, result);
+        library->tracks[k].k = k;
+        library->tracks[k].id = result[SARVOLTIG_TRACK_ID];
+    }
+    qsort(library->tracks, library->track_count, sizeof *library->tracks, compare_tracks);
 }
 
 /* Prints a character as UTF-8; what is no character, or would control a terminal, as U+FFFD. */
@@ -440,7 +455,9 @@ int main(int argc, char **argv)
     }
     intake = take_in(file, argv[1]);
     fclose(file);
-    library = read_library(&intake);
+    read_nodes(&intake, &library);
+    read_entries(&intake, &library);
+    read_tracks(&intake, &library);
     print_children(&intake, &library, 0, 0);
     for (i = 0; i < library.node_count; i++) {
         if (!library.nodes[i].is_printed) {
