@@ -108,7 +108,9 @@ impl Library {
     pub fn make(&mut self, call: &Call) -> Result<Option<Answer>, Failure> {
         let mut list = Vec::new();
         let reply = match *call {
-            Call::Lend { image, words } => return self.lend(image, words).map(|()| None),
+            Call::Lend { image, words } => {
+                return self.replace_buffers(image, words).map(|()| None)
+            }
             Call::Word { i, value } => {
                 self.write(i, value);
                 return Ok(None);
@@ -125,7 +127,7 @@ impl Library {
         Ok(Some(Answer { reply, list }))
     }
 
-    fn lend(&mut self, image: usize, words: usize) -> Result<(), Failure> {
+    fn replace_buffers(&mut self, image: usize, words: usize) -> Result<(), Failure> {
         self.image = Vec::new();
         self.map = Vec::new();
         self.image = filled(image, |i| i.wrapping_mul(167).wrapping_add(13) as u8)?;

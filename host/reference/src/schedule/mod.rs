@@ -92,7 +92,7 @@ impl Call {
         let mut list = Vec::new();
         let reply = match *self {
             Call::Lend { image, words } => {
-                session.replace_buffers(lent_image(image), lent_map(words));
+                session.replace_buffers(fresh_image(image), fresh_map(words));
                 return None;
             }
             Call::Word { i, value } => {
@@ -117,12 +117,12 @@ impl Call {
 }
 
 /// "byte i = (167 i + 13) mod 256"
-fn lent_image(len: usize) -> Vec<u8> {
+fn fresh_image(len: usize) -> Vec<u8> {
     (0..len).map(|i| (167 * (i % 256) + 13) as u8).collect()
 }
 
 /// "word i = hexadecimal 0123456789abcdef times (2 i + 1), mod 2^64"
-fn lent_map(words: usize) -> Vec<u64> {
+fn fresh_map(words: usize) -> Vec<u64> {
     (0..words as u64)
         .map(|i| 0x0123_4567_89ab_cdef_u64.wrapping_mul(2 * i + 1))
         .collect()

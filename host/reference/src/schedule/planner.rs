@@ -107,13 +107,13 @@ impl Planner<'_> {
     /// Buffers and an opening, sometimes after refused ones.
     fn start(&mut self) {
         if self.rng.chance(1, 4) {
-            self.lend_too_little();
+            self.buffers_too_short();
             self.any_question();
             self.open();
             self.open_any();
             self.any_question();
         }
-        self.lend();
+        self.fresh_buffers();
         if self.rng.chance(1, 8) {
             self.any_question();
             self.deliver_right(0);
@@ -123,7 +123,7 @@ impl Planner<'_> {
     }
 
     /// Buffers that are long enough for the file.
-    fn lend(&mut self) {
+    fn fresh_buffers(&mut self) {
         let longer = self.rng.chance(1, 2);
         let more = |most: u64, rng: &mut Rng| match longer {
             true => rng.below(most) as usize,
@@ -134,7 +134,7 @@ impl Planner<'_> {
         self.make(Call::Lend { image, words });
     }
 
-    fn lend_too_little(&mut self) {
+    fn buffers_too_short(&mut self) {
         let (len, counted) = (self.export.len(), self.counted_words());
         let image = self.rng.pick(&[0, len - 1, len - BLOCK_SIZE, len, len]);
         let words = self.rng.pick(&[0, counted - 1, counted]);
@@ -259,7 +259,7 @@ impl Planner<'_> {
             1 => self.word_from_outside(),
             2 => self.open(),
             3 => self.open_any(),
-            4 => self.lend_again(),
+            4 => self.fresh_buffers_again(),
             _ => {}
         }
     }
@@ -291,14 +291,14 @@ impl Planner<'_> {
     }
 
     /// Other buffers under the same record, then mostly a new opening.
-    fn lend_again(&mut self) {
+    fn fresh_buffers_again(&mut self) {
         match self.rng.chance(1, 2) {
-            true => self.lend_too_little(),
-            false => self.lend(),
+            true => self.buffers_too_short(),
+            false => self.fresh_buffers(),
         }
         self.any_question();
         self.repeat();
-        self.lend();
+        self.fresh_buffers();
         if self.rng.chance(3, 4) {
             self.open();
         }

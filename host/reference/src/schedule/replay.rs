@@ -37,7 +37,7 @@ pub fn replay(lines: &str) -> Replayed {
             return Replayed { output, status: 2 };
         };
         if let Some(answer) = call.make(&mut session) {
-            let crc = lent_crc(&session, &answer);
+            let crc = checksum(&session, &answer);
             let _ = writeln!(output, "{answer} lent {crc:08x}");
         }
     }
@@ -45,7 +45,7 @@ pub fn replay(lines: &str) -> Replayed {
 }
 
 /// The CRC of the image, the map and the list, as they are after the call.
-fn lent_crc(session: &Session, answer: &Answer) -> u32 {
+fn checksum(session: &Session, answer: &Answer) -> u32 {
     let map = session.map().iter().flat_map(|word| word.to_le_bytes());
     let list = answer.list.iter().flat_map(|place| place.to_le_bytes());
     crc32([
