@@ -8,7 +8,7 @@
  *
  *     code        answer                                      values
  *     0           SARVOLTIG_DONE                              those of the function, below
- *     1 to 63     refused, by the number of document 01       what the refusal carries, 0 where it carries nothing
+ *     1 to 63     refused, by its number (docs/RULES.md, 2)   what the refusal carries, 0 where it carries nothing
  *     64          SARVOLTIG_SAME (deliveries)                 those of the function
  *     65          SARVOLTIG_WAITING (questions)               rows found, pages walked, page that is waited for
  *
@@ -20,7 +20,7 @@
  *   - the slices of one call do not overlap, but for two that the call only reads;
  *   - nothing else writes to the slices during the call.
  *
- * The archive libsarvoltig.a is written by `rt staticlib sarvoltig`, for x86-64 (System V calling convention).
+ * The library lib/libsarvoltig.a is written by tools/build_library, for x86-64 (System V calling convention).
  */
 #ifndef SARVOLTIG_H
 #define SARVOLTIG_H
@@ -39,7 +39,7 @@ enum {
     SARVOLTIG_RESULT = 22          /* numbers in the longest answer, a track's record */
 };
 
-/* The map's words that count for a file of len bytes. A longer map is allowed; its other words stay. */
+/* The words of the map that a file of len bytes uses. A longer map is allowed; its other words stay. */
 #define SARVOLTIG_MAP_WORDS(len) (((len) / SARVOLTIG_BLOCK + 63) / 64)
 
 /* Codes. */
@@ -54,7 +54,7 @@ enum {
     SARVOLTIG_LENGTH = 1,         /* the file's length is not a multiple of 512 from 512 to SARVOLTIG_LONGEST */
     SARVOLTIG_IMAGE_SHORT = 2,    /* the image is shorter than the file */
     SARVOLTIG_MAP_SHORT = 3,      /* the map has fewer than SARVOLTIG_MAP_WORDS(len) words */
-    SARVOLTIG_MAP_SPARE = 4,      /* a bit behind the last block is set in a word that counts */
+    SARVOLTIG_MAP_SPARE = 4,      /* a bit behind the last block is set in a word in use */
     SARVOLTIG_BLOCK_NUMBER = 5,   /* the file has no such block */
     SARVOLTIG_PIECE_SIZE = 6,     /* the piece is not 512 bytes */
     SARVOLTIG_BLOCK_DIFFERS = 7,  /* the block is held with other bytes, which stay */
@@ -162,7 +162,7 @@ enum {
 };
 
 /*
- * Opens an intake for a file of len bytes: clears the map's words that count. The image is neither read nor written.
+ * Opens an intake for a file of len bytes: clears the map's words in use. The image is neither read nor written.
  *
  *     0           the file's number of blocks
  *     1 to 3      refused
@@ -190,8 +190,8 @@ uint32_t sarvoltig_deliver(uint64_t len,
                            uint64_t *result, size_t result_len);
 
 /*
- * Asks for all rows of a table. Their places, the byte offsets in the image where they start, go to the front of the list;
- * the rest of the list stays.
+ * Asks for all rows of a table. A row's place is the byte offset in the image where it starts. The places are written to
+ * the list from its first element on; elements behind them stay.
  *
  *     0           all rows: how many, and the pages walked
  *     65          the rows so far: how many, the pages walked, and the first page that is not wholly held

@@ -1,6 +1,6 @@
 /*
- * Runs case D of document 01 through the C interface. Every slice has guard elements behind it: each call has to give the
- * code and the values of document 01, and to leave everything else as it was.
+ * Runs case D (rule 9.11) through the C interface. Every slice has guard elements behind it: each call has to give the
+ * code and the values of the rules, and to leave everything else as it was.
  */
 #include <inttypes.h>
 #include <stdint.h>
@@ -176,7 +176,7 @@ int main(void)
                "nothing is written behind a slice");
     }
     if (failures == 0) {
-        puts("check_c: the C interface answers as document 01 says");
+        puts("check_c: the C interface answers as the rules say");
     }
     return failures != 0;
 }

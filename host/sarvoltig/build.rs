@@ -1,4 +1,4 @@
-//! Links the proved archive, `target/staticlib/libsarvoltig.a` of the repository, or that of `SARVOLTIG_LIB_DIR`.
+//! Links the proved library, `lib/libsarvoltig.a` of the repository, or that of `SARVOLTIG_LIB_DIR`.
 
 use std::env;
 use std::path::PathBuf;
@@ -8,14 +8,14 @@ fn main() {
     let dir = match env::var_os("SARVOLTIG_LIB_DIR") {
         Some(dir) => PathBuf::from(dir),
         None => PathBuf::from(env::var_os("CARGO_MANIFEST_DIR").expect("cargo sets it"))
-            .join("../../target/staticlib"),
+            .join("../../lib"),
     };
-    let archive = dir.join("libsarvoltig.a");
-    println!("cargo:rerun-if-changed={}", archive.display());
+    let library = dir.join("libsarvoltig.a");
+    println!("cargo:rerun-if-changed={}", library.display());
     assert!(
-        archive.exists(),
-        "{} is not there: run `rt staticlib sarvoltig` in the repository first",
-        archive.display()
+        library.exists(),
+        "{} is not there: run `tools/build_library` in the repository first",
+        library.display()
     );
     println!("cargo:rustc-link-search=native={}", dir.display());
     println!("cargo:rustc-link-lib=static=sarvoltig");

@@ -1,27 +1,34 @@
--- The agreement law of the chain: two images that agree on the bytes that count, of the pages that the walk reads, give the same walk.
+-- Two images that agree on the relevant bytes of the pages that the walk reads give the same walk: rules 7.3 to 7.7.
+-- Rests on the agreement of pages (crate `page`) and on proofs/SameWalk.
 use mathlib.Core.Path.{_≡_, refl}
 use mathlib.Core.Bool.{true}
-use mathlib.Core.List.{List}
 use Prim.Native.Nat.{ℕ}
-use Rattle.field.specs.Agree.{Agree}
-use Rattle.row.specs.declared.Table.{Table}
+use Rattle.lists.specs.Alias.{Bytes, Words}
+use Rattle.number.specs.Agree.{Agree}
+use Rattle.refusal.specs.Answer.{Answer, given, refused}
+use Rattle.table.specs.declared.Table.{Table}
+use Rattle.directory.specs.declared.Chain.{Chain}
 use Rattle.page.specs.Bytes.{headerByte, pageByte}
-use Rattle.chain.specs.Walk.{walkFrom}
-use Rattle.chain.specs.File.{pagePart, pageNext, filePages}
-use Rattle.chain.specs.Reads.{readsFrom}
-use Rattle.field.proofs.Choice.{or-left}
-use Rattle.field.proofs.Agree.{agree-less}
-use Rattle.page.proofs.Agree.{next-page-agree, read-agree}
-use Rattle.chain.proofs.Congruence.{walk-from-agree}
+use Rattle.chain.specs.File.{pagePart, pageNext}
+use Rattle.chain.specs.Chain.{chainWalk, chainReads}
+use Rattle.lists.proofs.Choice.{or-left}
+use Rattle.number.proofs.NumberAgree.{agree-less}
+use Rattle.page.proofs.PageAgree.{next-page-agree, read-agree}
+use Rattle.chain.proofs.SameWalk.{walk-from-agree}
 
-header-bytes : (number : ℕ) (table : Table) {s t : List ℕ} → Agree (pageByte number table s) s t → Agree headerByte s t
+header-bytes : (number : ℕ) (table : Table) {s t : Bytes} → Agree (pageByte number table s) s t → Agree headerByte s t
 unfolding pageByte
 header-bytes number table a = agree-less (λ i e. or-left _ e) a
 
-pub file-agree : (size count last : ℕ) (table : Table) (s t map : List ℕ) (first : ℕ)
-    → ((page : ℕ) → readsFrom (filePages size count last table s map) first page ≡ true → Agree (pageByte page table (pagePart size s page)) (pagePart size s page) (pagePart size t page))
-    → walkFrom (filePages size count last table s map) first ≡ walkFrom (filePages size count last table t map) first
+-- two images agree on the relevant bytes of a page
+abbrev pub PageAgrees : (table : Table) (s t : Bytes) (size page : ℕ) → Type 0
+PageAgrees table s t size page = Agree (pageByte page table (pagePart size s page)) (pagePart size s page) (pagePart size t page)
+
+pub chain-walk-agree : (table : Table) (s t : Bytes) (map : Words) (chain : Answer Chain)
+    → ((c : Chain) → chain ≡ given c → (page : ℕ) → chainReads table s map chain page ≡ true → PageAgrees table s t (c .«len_page») page)
+    → chainWalk table s map chain ≡ chainWalk table t map chain
 unfolding pageNext
-file-agree size count last table s t map first each =
-    walk-from-agree (record { count = refl; last = refl; held = λ page l. refl }) first
-    (λ page r. record { read = read-agree page table (each page r); next = next-page-agree (header-bytes page table (each page r)) })
+chain-walk-agree table s t map (given c) each =
+    walk-from-agree (record { count = refl; last = λ page. refl; held = λ page l. refl }) (c .«first_page»)
+    (λ page r. let a = each c refl page r in record { read = read-agree page table a; next = next-page-agree (header-bytes page table a) })
+chain-walk-agree table s t map (refused f) each = refl

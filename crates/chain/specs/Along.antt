@@ -1,13 +1,14 @@
--- The pages of a chain in the order in which the walk meets them, and the places of their rows.
+-- The pages of a chain in the order in which the walk comes to them (rules 4.6, 4.9), and their rows in that order (rule 4.10).
 use mathlib.Core.List.{List, [], _∷_, _++_}
 use Prim.Native.Nat.{ℕ, zero, suc}
+use Rattle.lists.specs.Alias.{Places}
 
 -- the first k pages from this page on; next gives a page's next_page
-unfoldable pub along : (ℕ → ℕ) → ℕ → ℕ → List ℕ
+unfoldable pub along : (next : ℕ → ℕ) (k page : ℕ) → List ℕ
 along next zero page = []
 along next (suc k) page = page ∷ along next k (next page)
 
--- the rows of the first k pages from this page on; rowsOf gives a page's rows
-unfoldable pub rowsAlong : (ℕ → ℕ) → (ℕ → List ℕ) → ℕ → ℕ → List ℕ
-rowsAlong next rowsOf zero page = []
-rowsAlong next rowsOf (suc k) page = rowsOf page ++ rowsAlong next rowsOf k (next page)
+-- the rows of the first k pages from this page on
+unfoldable pub rowsAlong : (next : ℕ → ℕ) (rows : ℕ → Places) (k page : ℕ) → Places
+rowsAlong next rows zero page = []
+rowsAlong next rows (suc k) page = rows page ++ rowsAlong next rows k (next page)

@@ -1,36 +1,38 @@
--- The page layer of a file (specs/Walk): its pages are parts of the image, and the map says which blocks are held.
-use mathlib.Core.List.{List}
+-- The page layer of a file (specs/Walk): its pages are parts of the image, and the map says which are held.
+-- Rules 3.10, 4.5, 4.6 and 4.17. Rests on reading a page (crate `page`).
 use Prim.Native.Nat.{ℕ, _*_}
+use lib.Dec.{eqb}
 use lib.ListN.{take, drop}
-use Rattle.row.specs.declared.Table.{Table}
-use Rattle.page.specs.Header.{next-page}
+use Rattle.lists.specs.Alias.{Bytes, Words, Places}
+use Rattle.table.specs.declared.Table.{Table}
+use Rattle.directory.specs.declared.Chain.{Chain}
+use Rattle.page.specs.Header as header
 use Rattle.page.specs.Read.{readPage, rowPlaces}
 use Rattle.chain.specs.Walk.{Pages}
 use Rattle.chain.specs.Along.{rowsAlong}
 use Rattle.chain.specs.Held.{pageHeld}
 
--- page n is the len_page bytes of the image from n * len_page on
-unfoldable pub pagePart : ℕ → List ℕ → ℕ → List ℕ
+-- the bytes of a page of size bytes, as far as the image has them
+unfoldable pub pagePart : (size : ℕ) (image : Bytes) (number : ℕ) → Bytes
 pagePart size image number = take size (drop (number * size) image)
 
--- "next_page at `0c`"
-unfoldable pub pageNext : ℕ → List ℕ → ℕ → ℕ
-pageNext size image number = next-page (pagePart size image number)
+unfoldable pub pageNext : (size : ℕ) (image : Bytes) (number : ℕ) → ℕ
+pageNext size image number = header.next-page (pagePart size image number)
 
-abbrev pub filePages : ℕ → ℕ → ℕ → Table → List ℕ → List ℕ → Pages
-filePages size count last table image map =
+abbrev pub filePages : (chain : Chain) (table : Table) (image : Bytes) (map : Words) → Pages
+filePages chain table image map =
     record {
-      count = count;
-      last = last;
-      held = λ (number : ℕ). pageHeld size map number;
-      read = λ (number : ℕ). readPage number table (pagePart size image number);
-      next = λ (number : ℕ). pageNext size image number;
+      pageCount = chain .«page_count»;
+      isLast = λ (number : ℕ). eqb number (chain .«last_page»);
+      held = λ (number : ℕ). pageHeld (chain .«len_page») map number;
+      read = λ (number : ℕ). readPage number table (pagePart (chain .«len_page») image number);
+      next = λ (number : ℕ). pageNext (chain .«len_page») image number;
     }
 
--- the places that are written of page n
-unfoldable pub pagePlaces : ℕ → List ℕ → ℕ → List ℕ
+-- the places that are written of a page
+unfoldable pub pagePlaces : (size : ℕ) (image : Bytes) (number : ℕ) → Places
 pagePlaces size image number = rowPlaces (number * size) (pagePart size image number)
 
--- the places that are written of the first k pages of a chain, from a page on
-unfoldable pub chainPlaces : ℕ → List ℕ → ℕ → ℕ → List ℕ
-chainPlaces size image k page = rowsAlong (pageNext size image) (pagePlaces size image) k page
+-- the places that are written of the first k pages from a page on
+unfoldable pub placesAlong : (size : ℕ) (image : Bytes) (k page : ℕ) → Places
+placesAlong size image k page = rowsAlong (pageNext size image) (pagePlaces size image) k page

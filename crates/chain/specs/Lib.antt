@@ -5,3 +5,5 @@ pub mod Tally
 pub mod Held
 pub mod File
 pub mod Reads
+pub mod Chain
+pub mod Place

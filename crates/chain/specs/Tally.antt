@@ -1,19 +1,20 @@
--- What a walk counts, and document 01's answer for each case of the code's enum.
-use mathlib.Core.List.{List}
+-- Rule 4.8: what a walk counts, and the answer for each case of the code's enum.
 use Prim.Native.Nat.{ℕ}
 use lib.ListN.{length}
-use Rattle.field.specs.Fault.{faultOf}
+use Rattle.lists.specs.Alias.{Places}
+use Rattle.refusal.specs.Fault.{faultOf}
+use Rattle.refusal.specs.Answer.{given, refused}
 use Rattle.chain.specs.declared.Walked.{Walked}
 use Rattle.chain.specs.declared.Walked.the-variants.{Full, Waiting, Refused}
-use Rattle.chain.specs.Walk.{Walk, full, waiting, refused}
+use Rattle.chain.specs.Walk.{Walk, full, waiting}
 
--- "Full and Waiting carry the rows found and pages walked": the number of rows
-abbrev pub tally : Walk (List ℕ) → Walk ℕ
-tally (full rows pages) = full (length rows) pages
-tally (waiting page rows pages) = waiting page (length rows) pages
+-- the rows found by their number
+abbrev pub tally : Walk Places → Walk ℕ
+tally (given (full rows pages)) = given (full (length rows) pages)
+tally (given (waiting page rows pages)) = given (waiting page (length rows) pages)
 tally (refused f) = refused f
 
-abbrev pub walkedAs : Walked → Walk ℕ
-walkedAs (Full rows pages) = full rows pages
-walkedAs (Waiting page rows pages) = waiting page rows pages
-walkedAs (Refused refusal) = refused (faultOf refusal)
+abbrev pub walkedOf : Walked → Walk ℕ
+walkedOf (Full rows pages) = given (full rows pages)
+walkedOf (Waiting page rows pages) = given (waiting page rows pages)
+walkedOf (Refused refusal) = refused (faultOf refusal)

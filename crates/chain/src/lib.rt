@@ -1,25 +1,39 @@
-// The walk along a table's chain of pages.
+// Along a table's chain of pages: the walk, the places of its rows, and one row by its number.
 ghost use mathlib.Core.Path.{_≡_};
 ghost use mathlib.Core.Bool.{_||_};
 ghost use Prim.Native.Nat.{_+_, min};
 ghost use lib.ListN.{length};
 ghost use lib.Dec.{eqb, leb};
+ghost use Rattle.lists.specs.Nth.{nth};
+ghost use Rattle.lists.specs.Write.{written};
+ghost use Rattle.directory.specs.Chain.{chainIn};
 ghost use Rattle.chain.specs.Walk.{walkFrom};
-ghost use Rattle.chain.specs.Tally.{tally, walkedAs};
+ghost use Rattle.chain.specs.Tally.{tally, walkedOf};
 ghost use Rattle.chain.specs.Held.{pageHeld};
-ghost use Rattle.chain.specs.File.{pagePart, filePages, pagePlaces, chainPlaces};
-ghost use Rattle.page.specs.Read.{written};
-use field::Block;
-use field::Page;
-use field::Refusal;
+ghost use Rattle.chain.specs.File.{pagePart, filePages, pagePlaces, placesAlong};
+ghost use Rattle.chain.specs.Chain.{chainWalk, chainPlaces};
+ghost use Rattle.chain.specs.Place.{placeOf};
+use directory::Chain;
+use directory::ChainReply;
+use directory::Directory;
+use format::Block;
+use format::Page;
 use page::PageRead;
-use row::Table;
+use page::RowAt;
+use refusal::Refusal;
+use table::Table;
 
 // What a walk answers, Full and Waiting with the number of rows found and of pages walked.
 pub enum Walked {
     Full { rows: usize, pages: u64 },
     Waiting { page: u32, rows: usize, pages: u64 },
     Refused(Refusal),
+}
+
+// Row k of a page or of a chain: its place in the image, or how many rows there are.
+pub enum Place {
+    At(u32),
+    Past(usize),
 }
 
 // Whether every block of a page is held.
@@ -30,7 +44,7 @@ fn is_held(size: u32, number: u32, map: &[u64]) -> bool
     let first = (number as u64) * blocks;
     let mut i: u64 = 0;
     while i < blocks {
-        if !intake::has_bit(map, first + i) {
+        if !bitmap::has_bit(map, first + i) {
             return false;
         }
         i += 1;
@@ -38,7 +52,7 @@ fn is_held(size: u32, number: u32, map: &[u64]) -> bool
     true
 }
 
-// A page's part of the image, which ends where the image does.
+// A page's part of the image, as far as the image has it.
 pub fn part(image: &[u8], number: u32, size: u32) -> &[u8]
     ensures { λ r. ⌜ now r ≡ pagePart size (now (image .entry)) number ⌝ }
 {
@@ -56,8 +70,8 @@ pub fn part(image: &[u8], number: u32, size: u32) -> &[u8]
 }
 
 // Whether a page has been met before, as far as can be told: it is the mark, or so many pages were walked that no other is left.
-fn is_again(page: u32, mark: u32, pages: u64, count: u64) -> bool
-    ensures { λ r. ⌜ r ≡ (eqb page mark || leb (min count 0x1_0000_0000) (pages + 1)) ⌝ }
+fn is_again(page: u32, mark: u32, pages: u64, page_count: u64) -> bool
+    ensures { λ r. ⌜ r ≡ (eqb page mark || leb (min «page_count» 0x1_0000_0000) (pages + 1)) ⌝ }
 {
     if page == mark {
         return true;
@@ -65,41 +79,33 @@ fn is_again(page: u32, mark: u32, pages: u64, count: u64) -> bool
     if 0xffff_ffff <= pages {
         return true;
     }
-    count <= pages + 1
+    page_count <= pages + 1
 }
 
-// Walks the chain from first to last. The pages met are not kept: the walk counts, and keeps one page as a mark, a later
-// one each time the pages walked have doubled, so that a loop of any length meets the mark again after a few turns.
-pub fn walk(
-    size: u32,
-    count: u64,
-    first: u32,
-    last: u32,
-    table: Table,
-    image: &[u8],
-    map: &[u64],
-) -> Walked
-    ensures { λ r. ⌜ walkedAs r ≡ tally (walkFrom (filePages size count last table (now (image .entry)) (now (map .entry))) first) ⌝ }
+// Walks a chain. The pages met are not kept: the walk counts, and keeps one page as a mark, a later one each time the
+// pages walked have doubled, so that a loop of any length meets the mark again after a few turns.
+fn walk_chain(chain: Chain, table: Table, image: &[u8], map: &[u64]) -> Walked
+    ensures { λ r. ⌜ walkedOf r ≡ tally (walkFrom (filePages chain table (now (image .entry)) (now (map .entry))) (chain .«first_page»)) ⌝ }
 {
-    let mut page = first;
+    let mut page = chain.first_page;
     let mut holder: u32 = 0;
     let mut rows: usize = 0;
     let mut pages: u64 = 0;
     let mut mark: u32 = 0;
-    while Page::linkable(count, page) {
-        if is_again(page, mark, pages, count) {
+    while Page::linkable(chain.page_count, page) {
+        if is_again(page, mark, pages, chain.page_count) {
             return Walked::Refused(Refusal::ChainLoop);
         }
-        if !is_held(size, page, map) {
+        if !is_held(chain.len_page, page, map) {
             return Walked::Waiting { page, rows, pages };
         }
-        let bytes = part(image, page, size);
+        let bytes = part(image, page, chain.len_page);
         match page::read(bytes, page, table) {
             PageRead::Refused(refusal) => return Walked::Refused(refusal),
             PageRead::Rows(found) => rows += found,
         }
         pages += 1;
-        if page == last {
+        if page == chain.last_page {
             return Walked::Full { rows, pages };
         }
         if u64::count_ones(pages) == 1 {
@@ -111,21 +117,33 @@ pub fn walk(
     Walked::Refused(Refusal::PageLink(holder))
 }
 
-// Writes the places of a page's rows to the front of the list, as many as it takes, and counts them.
-fn fill_page(size: u32, number: u32, image: &[u8], list: &mut [u32]) -> usize
-    ensures { λ r. ⌜ (r ≡ length (pagePlaces size (now (image .entry)) number)) × (now (list .exit) ≡ written (now (list .entry)) (pagePlaces size (now (image .entry)) number)) ⌝ }
+// Walks the chain of a table.
+pub fn walk(directory: Directory, table: Table, image: &[u8], map: &[u64]) -> Walked
+    ensures { λ r. ⌜ walkedOf r ≡ tally (chainWalk table (now (image .entry)) (now (map .entry)) (chainIn directory table)) ⌝ }
 {
-    let start = (number as u64) * (size as u64);
-    if 0xffff_ffff < start {
-        return 0;
+    let chain = directory.chain(table);
+    match chain {
+        ChainReply::Found(found) => walk_chain(found, table, image, map),
+        ChainReply::Refused(refusal) => Walked::Refused(refusal),
     }
-    page::fill(part(image, number, size), start as u32, list)
 }
 
-// Writes the places of the rows on the first pages of a chain to the front of the list, as many as it takes. The pages are
-// those that a walk has counted: they are not checked again.
-pub fn fill(size: u32, first: u32, pages: u64, image: &[u8], list: &mut [u32])
-    ensures { λ _. ⌜ now (list .exit) ≡ written (now (list .entry)) (chainPlaces size (now (image .entry)) pages first) ⌝ }
+// Writes the places of a page's rows to the front of the list, as many as it takes, and counts them.
+fn fill_page(size: u32, number: u32, image: &[u8], list: &mut [u32]) -> usize
+    ensures { λ r. ⌜ (r ≡ length (pagePlaces size (now (image .entry)) number)) ×
+        (now (list .exit) ≡ written (now (list .entry)) (pagePlaces size (now (image .entry)) number)) ⌝ }
+{
+    let page = Page::new(number, size);
+    let place = page.start;
+    if 0xffff_ffff < place {
+        return 0;
+    }
+    page::fill(part(image, number, size), place as u32, list)
+}
+
+// Writes the places on the first pages of a chain to the front of the list, as many as it takes.
+fn fill_along(size: u32, first: u32, pages: u64, image: &[u8], list: &mut [u32])
+    ensures { λ _. ⌜ now (list .exit) ≡ written (now (list .entry)) (placesAlong size (now (image .entry)) pages first) ⌝ }
 {
     let mut page = first;
     let mut left = pages;
@@ -138,5 +156,73 @@ pub fn fill(size: u32, first: u32, pages: u64, image: &[u8], list: &mut [u32])
         at += found;
         page = page::next(part(image, page, size));
         left -= 1;
+    }
+}
+
+// Writes the places of the rows on the first pages of a table's chain to the front of the list, as many as it takes. The
+// pages are those that a walk has counted: they are not checked again.
+pub fn fill(directory: Directory, table: Table, pages: u64, image: &[u8], list: &mut [u32])
+    ensures { λ _. ⌜ now (list .exit) ≡ written (now (list .entry)) (chainPlaces (now (image .entry)) pages (chainIn directory table)) ⌝ }
+{
+    let chain = directory.chain(table);
+    match chain {
+        ChainReply::Found(found) => fill_along(
+            found.len_page,
+            found.first_page,
+            pages,
+            image,
+            list,
+        ),
+        ChainReply::Refused(_) => {}
+    }
+}
+
+// Row k of a page, among the places that fill would write.
+fn row_on(size: u32, number: u32, image: &[u8], k: usize) -> Place
+    ensures { λ r. ⌜ placeOf r ≡ nth (pagePlaces size (now (image .entry)) number) k 0 ⌝ }
+{
+    let page = Page::new(number, size);
+    let place = page.start;
+    if 0xffff_ffff - Page::HEAP - 0xffff < place {
+        return Place::Past(0);
+    }
+    let found = page::row(part(image, number, size), k);
+    match found {
+        RowAt::Start(at) => Place::At((place as u32) + (at as u32)),
+        RowAt::Past(rows) => Place::Past(rows),
+    }
+}
+
+// Row k on the first pages of a chain.
+fn row_along(size: u32, first: u32, pages: u64, image: &[u8], k: usize) -> Place
+    ensures { λ r. ⌜ placeOf r ≡ nth (placesAlong size (now (image .entry)) pages first) k 0 ⌝ }
+{
+    let mut page = first;
+    let mut left = pages;
+    let mut found: usize = 0;
+    while 0 < left {
+        let place = row_on(size, page, image, k - found);
+        match place {
+            Place::At(at) => {
+                return Place::At(at);
+            }
+            Place::Past(rows) => {
+                found += rows;
+            }
+        }
+        page = page::next(part(image, page, size));
+        left -= 1;
+    }
+    Place::Past(found)
+}
+
+// Row k on the first pages of a table's chain, which a walk has counted.
+pub fn row(directory: Directory, table: Table, pages: u64, image: &[u8], k: usize) -> Place
+    ensures { λ r. ⌜ placeOf r ≡ nth (chainPlaces (now (image .entry)) pages (chainIn directory table)) k 0 ⌝ }
+{
+    let chain = directory.chain(table);
+    match chain {
+        ChainReply::Found(found) => row_along(found.len_page, found.first_page, pages, image, k),
+        ChainReply::Refused(_) => Place::Past(0),
     }
 }

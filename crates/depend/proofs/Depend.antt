@@ -1,74 +1,92 @@
--- The theorem (specs/Depend): an answer depends on the bytes that count, and on no other.
--- Rests on the walk (proofs/Walks), on the rows found (proofs/Rows), and on what the bytes that count are not (proofs/Held, proofs/Others).
+-- The theorem (specs/Depend): rules 7.1 and 7.9 to 7.13 for every question.
+-- Rests on the files above it in proofs/Lib.
 use mathlib.Core.Path.{_≡_, refl, ap}
 use mathlib.Core.Bool.{not}
-use mathlib.Core.List.{List}
 use Prim.Native.Nat.{ℕ}
 use lib.ListN.{length}
 use lib.Dec.{ltb}
-use Rattle.field.specs.Agree.{Agree}
-use Rattle.field.specs.Fault.{Answer, given, refused as unread}
-use Rattle.row.specs.declared.Table.{Table}
-use Rattle.row.specs.Layout.{slotCount}
-use Rattle.intake.specs.Check.{openFault, callFault}
-use Rattle.intake.specs.Memory.{memory}
-use Rattle.export.specs.Walk.{askedTable}
-use Rattle.export.specs.Rows.{settleRows, rowsOf, askRows}
+use Rattle.lists.specs.Alias.{Bytes, Words, Places}
+use Rattle.number.specs.Agree.{Agree}
+use Rattle.refusal.specs.Answer.{Answer, given, refused, andThen}
+use Rattle.table.specs.declared.Table.{Table}
+use Rattle.table.specs.Table.{slotCount}
+use Rattle.intake.specs.Check.{checkLengths, checkCall}
+use Rattle.intake.specs.Memory.{Memory, memory}
+use Rattle.export.specs.Asked.{askedTable}
+use Rattle.export.specs.Walk.{tableWalk}
+use Rattle.export.specs.Rows.{settleRows, askRows}
 use Rattle.export.specs.Record.{recordIn, askRecord}
 use Rattle.export.specs.Text.{textIn, askText}
-use Rattle.run.specs.Call.{Question, allRows, rowRecord, rowText, rows, row, text}
-use Rattle.depend.specs.Bytes.{unlessNoSlot, byteOf, counts}
-use Rattle.depend.specs.Depend.{DecidedBy, EveryQuestion}
-use Rattle.field.proofs.Choice.{cond-agree}
-use Rattle.field.proofs.Agree.{agree-less}
-use Rattle.export.proofs.Start.{asked-sound}
-use Rattle.depend.proofs.Walks.{walk-agree}
-use Rattle.depend.proofs.Rows.{record-row, text-row}
-use Rattle.depend.proofs.Held.{counts-held}
-use Rattle.depend.proofs.Others.{counts-read}
-use Rattle.depend.proofs.Counted.{counted-only}
+use Rattle.run.specs.Call.{Question, allRows, oneRecord, oneText, rows, row, text}
+use Rattle.depend.specs.Bytes.{withSlot, relevantIn, relevant}
+use Rattle.depend.specs.Depend.{DecidedBy, SameRows, EveryQuestion}
+use Rattle.lists.proofs.Choice.{on}
+use Rattle.number.proofs.NumberAgree.{agree-less}
+use Rattle.export.proofs.AskedTable.{asked-sound}
+use Rattle.depend.proofs.WalkAgree.{walk-agree}
+use Rattle.depend.proofs.FoundRowAgree.{record-row, text-row}
+use Rattle.depend.proofs.RelevantHeld.{relevant-held}
+use Rattle.depend.proofs.RelevantRead.{relevant-read}
+use Rattle.depend.proofs.InUseOnly.{in-use-only}
+use Rattle.depend.proofs.ListLength.{length-decides}
 
-module _ (len : ℕ) (map s t : List ℕ) where
-  asked-same : length s ≡ length t → (number : ℕ) → askedTable len (memory s map) number ≡ askedTable len (memory t map) number
-  unfolding askedTable callFault openFault
+module _ (len : ℕ) (map : Words) (s t : Bytes) where
+  abbrev m : Memory
+  m = memory s map
+
+  abbrev n : Memory
+  n = memory t map
+
+  asked-same : length s ≡ length t → (number : ℕ) → askedTable len m number ≡ askedTable len n number
+  unfolding askedTable checkCall checkLengths
   asked-same long number = rw long
 
-  rows-agree : (number : ℕ) (list : List ℕ) → Agree (byteOf len (memory s map) (askedTable len (memory s map) number)) s t → askRows len (memory s map) number list ≡ askRows len (memory t map) number list
+  rows-agree : (number : ℕ) (list : Places) → Agree (relevantIn len m (askedTable len m number)) s t → askRows len m number list ≡ askRows len n number list
   unfolding askRows
-  rows-agree number list a = rw (← asked-same (a .long) number) (by (askedTable len (memory s map) number) a)
+  rows-agree number list a = rw (← asked-same (a .long) number) (ap (settleRows list) (by (askedTable len m number) a))
     where
-      by : (x : Answer Table) → Agree (byteOf len (memory s map) x) s t → rowsOf len (memory s map) list x ≡ rowsOf len (memory t map) list x
-      by (given table) b = ap (settleRows list) (walk-agree len map s t table b)
-      by (unread f) b = refl
+      by : (x : Answer Table) → Agree (relevantIn len m x) s t → andThen x (tableWalk len m) ≡ andThen x (tableWalk len n)
+      by (given table) b = walk-agree len map s t table b
+      by (refused f) b = refl
 
-  record-agree : (number k : ℕ) → Agree (byteOf len (memory s map) (askedTable len (memory s map) number)) s t → askRecord len (memory s map) number k ≡ askRecord len (memory t map) number k
+  record-agree : (number k : ℕ) → Agree (relevantIn len m (askedTable len m number)) s t → askRecord len m number k ≡ askRecord len n number k
   unfolding askRecord
-  record-agree number k a = rw (← asked-same (a .long) number) (by (askedTable len (memory s map) number) refl a)
+  record-agree number k a = rw (← asked-same (a .long) number) (by (askedTable len m number) refl a)
     where
-      by : (x : Answer Table) → x ≡ askedTable len (memory s map) number → Agree (byteOf len (memory s map) x) s t → recordIn len (memory s map) k x ≡ recordIn len (memory t map) k x
-      by (given table) e b = record-row len map s t table b (asked-sound len (memory s map) number e) k
-      by (unread f) e b = refl
+      by : (x : Answer Table) → x ≡ askedTable len m number → Agree (relevantIn len m x) s t → andThen x (recordIn len m k) ≡ andThen x (recordIn len n k)
+      by (given table) e b = record-row len map s t table b (asked-sound len m number e) k
+      by (refused f) e b = refl
 
-  text-agree : (number k slot : ℕ) → Agree (byteOf len (memory s map) (unlessNoSlot slot (askedTable len (memory s map) number))) s t → askText len (memory s map) number k slot ≡ askText len (memory t map) number k slot
+  text-agree : (number k slot : ℕ) → Agree (relevantIn len m (andThen (askedTable len m number) (withSlot slot))) s t
+      → askText len m number k slot ≡ askText len n number k slot
   unfolding askText
-  text-agree number k slot a = rw (← asked-same (a .long) number) (by (askedTable len (memory s map) number) refl a)
+  text-agree number k slot a = rw (← asked-same (a .long) number) (by (askedTable len m number) refl a)
     where
-      by : (x : Answer Table) → x ≡ askedTable len (memory s map) number → Agree (byteOf len (memory s map) (unlessNoSlot slot x)) s t → textIn len (memory s map) k slot x ≡ textIn len (memory t map) k slot x
-      by (given table) e b = cond-agree (ltb slot (slotCount table)) (λ h. text-row len map s t table (rw h at b) (asked-sound len (memory s map) number e) k slot) (λ _. refl)
-      by (unread f) e b = refl
+      by : (x : Answer Table) → x ≡ askedTable len m number → Agree (relevantIn len m (andThen x (withSlot slot))) s t
+          → andThen x (textIn len m k slot) ≡ andThen x (textIn len n k slot)
+      by (given table) e b =
+          on (ltb slot (slotCount table)) (λ h. rw h (text-row len map s t table (rw h at b) (asked-sound len m number e) k slot)) (λ h. rw h)
+      by (refused f) e b = refl
 
-module _ (len : ℕ) (map : List ℕ) where
-  those : (q : Question) (image : List ℕ) → DecidedBy (counts len (memory image map) q) len map q image
-  unfolding counts
+module _ (len : ℕ) (map : Words) where
+  those : (q : Question) (image : Bytes) → DecidedBy (relevant len (memory image map) q) len map q image
+  unfolding relevant
   those (allRows number list) image other a = ap rows (rows-agree len map image other number list a)
-  those (rowRecord number k) image other a = ap row (record-agree len map image other number k a)
-  those (rowText number k slot) image other a = ap text (text-agree len map image other number k slot a)
+  those (oneRecord number k) image other a = ap row (record-agree len map image other number k a)
+  those (oneText number k slot) image other a = ap text (text-agree len map image other number k slot a)
+
+  lists : (image : Bytes) (table : ℕ) (list other : Places) → length list ≡ length other
+      → SameRows list other (askRows len (memory image map) table list) (askRows len (memory image map) table other)
+  unfolding askRows
+  lists image table list other long =
+      length-decides list other long (andThen (askedTable len (memory image map) table) (tableWalk len (memory image map)))
 
 pub depends : EveryQuestion
 depends len map q image =
     record {
       those = those len map q image;
-      held = λ other a. those len map q image other (agree-less (counts-held len (memory image map) q) a);
-      others = λ other a. those len map q image other (agree-less (λ i e. ap not (counts-read len (memory image map) q i e)) a);
-      counted = λ other words a. counted-only a q;
+      held = λ other a. those len map q image other (agree-less (relevant-held len (memory image map) q) a);
+      others = λ other a. those len map q image other (agree-less (λ i e. ap not (relevant-read len (memory image map) q i e)) a);
+      inUse = λ other words a. in-use-only a q;
+      lists = lists len map image;
     }

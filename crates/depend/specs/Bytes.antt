@@ -1,50 +1,57 @@
--- Document 01, "What an answer may depend on": the bytes of the image that count for a question, "the header fields, links, flags and offsets
--- named above, and the fixed parts and strings of present rows on pages walked". Which bytes of block 0 and of a page these are say directory/Bytes and page/Bytes.
-use mathlib.Core.Bool.{Bool, false, cond, _&&_, _||_}
+-- Rules 7.1 to 7.7 and 7.12: the relevant bytes of the image, those that the answer to a question may depend on.
+-- Rests on the relevant bytes of block 0 and of a page (directory/Bytes, page/Bytes) and on the pages that a walk reads (export/Reads).
+use mathlib.Core.Bool.{Bool, false, not, _&&_, _||_}
 use Prim.Native.Nat.{ℕ, _/_, _%_}
 use lib.Dec.{ltb}
-use Rattle.field.specs.Fault.{fault, Answer, given, refused as unread}
-use Rattle.row.specs.declared.Table.{Table}
-use Rattle.row.specs.Layout.{slotCount}
+use Rattle.lists.specs.Alias.{Bytes}
+use Rattle.refusal.specs.Fault.{fault}
+use Rattle.refusal.specs.Answer.{Answer, given, refused, refuseIf, andThen}
+use Rattle.table.specs.declared.Table.{Table}
+use Rattle.table.specs.Table.{slotCount}
 use Rattle.page.specs.Bytes.{pageByte}
-use Rattle.intake.specs.Bit.{bit}
+use Rattle.bitmap.specs.Bit.{bit}
 use Rattle.intake.specs.Memory.{Memory, blockAt}
 use Rattle.directory.specs.Bytes.{directoryByte}
 use Rattle.chain.specs.File.{pagePart}
-use Rattle.export.specs.Walk.{sizeOf, askedTable}
+use Rattle.export.specs.Asked.{askedTable}
+use Rattle.export.specs.Walk.{pageSize}
 use Rattle.export.specs.Reads.{tableReads}
-use Rattle.run.specs.Call.{Question, allRows, rowRecord, rowText}
+use Rattle.run.specs.Call.{Question, allRows, oneRecord, oneText}
 
--- the page where byte i of the image stands
-abbrev pub pageOf : Memory → ℕ → ℕ
-pageOf m i = i / sizeOf m
+-- the number of the page where byte i of the image stands, and that page's bytes
+abbrev pub pageAt : Memory → ℕ → ℕ
+pageAt m i = i / pageSize m
 
--- byte i counts, as byte i % len_page of a page walked
-unfoldable pub walkedByte : ℕ → Memory → Table → ℕ → Bool
-walkedByte len m table i = tableReads len m table (pageOf m i) && pageByte (pageOf m i) table (pagePart (sizeOf m) (m .image) (pageOf m i)) (i % sizeOf m)
+abbrev pub pageWith : Memory → ℕ → Bytes
+pageWith m i = pagePart (pageSize m) (m .image) (pageAt m i)
 
--- byte i counts, as a byte of block 0
+-- Rules 7.3 to 7.7: byte i is relevant as byte i % len_page of a page that the walk reads
+unfoldable pub walkedByte : (len : ℕ) (m : Memory) (table : Table) (i : ℕ) → Bool
+walkedByte len m table i = tableReads len m table (pageAt m i) && pageByte (pageAt m i) table (pageWith m i) (i % pageSize m)
+
+-- Rule 7.2: byte i is relevant as a byte of block 0
 unfoldable pub firstBlockByte : Memory → ℕ → Bool
 firstBlockByte m i = bit (m .map) 0 && directoryByte (blockAt (m .image) 0) i
 
-unfoldable pub tableByte : ℕ → Memory → Table → ℕ → Bool
+-- byte i is relevant where the chain of this table is walked
+unfoldable pub tableByte : (len : ℕ) (m : Memory) (table : Table) (i : ℕ) → Bool
 tableByte len m table i = firstBlockByte m i || walkedByte len m table i
 
--- "at a question 8, 19, then the file": the table whose chain is walked, if one is
-abbrev pub unlessNoSlot : ℕ → Answer Table → Answer Table
-unlessNoSlot slot (given table) = cond (ltb slot (slotCount table)) (given table) (unread (fault 19 0))
-unlessNoSlot slot (unread f) = unread f
+-- 19 comes before the file (rule 5.25)
+abbrev pub withSlot : ℕ → Table → Answer Table
+withSlot slot table = refuseIf (not (ltb slot (slotCount table))) (fault 19 0) (given table)
 
-abbrev pub walkedTable : ℕ → Memory → Question → Answer Table
+-- Rule 2.28: the table whose chain a question walks, if it is not refused before the file
+abbrev pub walkedTable : (len : ℕ) (m : Memory) (q : Question) → Answer Table
 walkedTable len m (allRows number list) = askedTable len m number
-walkedTable len m (rowRecord number k) = askedTable len m number
-walkedTable len m (rowText number k slot) = unlessNoSlot slot (askedTable len m number)
+walkedTable len m (oneRecord number k) = askedTable len m number
+walkedTable len m (oneText number k slot) = andThen (askedTable len m number) (withSlot slot)
 
--- nothing counts where the question is refused before the file
-abbrev pub byteOf : ℕ → Memory → Answer Table → ℕ → Bool
-byteOf len m (given table) i = tableByte len m table i
-byteOf len m (unread f) i = false
+-- Rule 7.12: where no chain is walked, no byte is relevant
+abbrev pub relevantIn : (len : ℕ) (m : Memory) (table : Answer Table) (i : ℕ) → Bool
+relevantIn len m (given table) i = tableByte len m table i
+relevantIn len m (refused f) i = false
 
--- byte i of the image counts for a question
-unfoldable pub counts : ℕ → Memory → Question → ℕ → Bool
-counts len m q i = byteOf len m (walkedTable len m q) i
+-- byte i of the image is relevant for a question
+unfoldable pub relevant : (len : ℕ) (m : Memory) (q : Question) (i : ℕ) → Bool
+relevant len m q i = relevantIn len m (walkedTable len m q) i

@@ -1,34 +1,51 @@
--- Document 01, "What an answer may depend on", as one theorem about the three questions.
+-- Section 7 as one theorem about the three questions (`EveryQuestion`): what the answer, and the list afterwards, may depend on.
+-- Rests on the relevant bytes (specs/Bytes) and on those that are unread (specs/Unread).
 use mathlib.Core.Path.{_≡_}
 use mathlib.Core.Bool.{Bool, not}
-use mathlib.Core.List.{List}
 use Prim.Native.Nat.{ℕ}
-use Rattle.field.specs.Agree.{Agree}
+use lib.ListN.{length, drop}
+use Rattle.lists.specs.Alias.{Bytes, Words, Places}
+use Rattle.number.specs.Agree.{Agree}
+use Rattle.refusal.specs.Answer.{given, refused}
 use Rattle.intake.specs.Memory.{memory}
-use Rattle.intake.specs.Counted.{SameCounted}
+use Rattle.intake.specs.InUse.{SameInUse}
+use Rattle.chain.specs.Walk.{Walk}
+use Rattle.export.specs.Rows.{RowsOutcome, rowsCounted, askRows}
 use Rattle.run.specs.Call.{Question, CallReply, answer}
-use Rattle.depend.specs.Bytes.{counts}
+use Rattle.depend.specs.Bytes.{relevant}
 use Rattle.depend.specs.Unread.{heldByte, unreadFor}
 
--- what a question answers, all rows with the list afterwards, over this image with this map
-abbrev pub answerOn : ℕ → List ℕ → Question → List ℕ → CallReply
+-- what a question answers over this image with this map; for all rows also the list afterwards
+abbrev pub answerOn : (len : ℕ) (map : Words) (q : Question) (image : Bytes) → CallReply
 answerOn len map q image = answer len (memory image map) q
 
 -- every image as long as this one that has the same bytes wherever the test holds gives the same answer and the same list
-abbrev pub DecidedBy : (ℕ → Bool) → ℕ → List ℕ → Question → List ℕ → Type 0
-DecidedBy test len map q image = (other : List ℕ) → Agree test image other → answerOn len map q image ≡ answerOn len map q other
+abbrev pub DecidedBy : (test : ℕ → Bool) (len : ℕ) (map : Words) (q : Question) (image : Bytes) → Type 0
+DecidedBy test len map q image = (other : Bytes) → Agree test image other → answerOn len map q image ≡ answerOn len map q other
 
-pub record Dependence (len : ℕ) (map : List ℕ) (q : Question) (image : List ℕ) : Type 0 where
-  -- "For a question: the numbers asked, L, the map, the sizes of lent buffers, the header fields, links, flags and offsets named above,
-  -- and the fixed parts and strings of present rows on pages walked."
-  pub those : DecidedBy (counts len (memory image map) q) len map q image
-  -- "No byte of a block not held changes an answer;"
+-- the number of rows written to the list
+abbrev pub rowsWritten : Walk ℕ → ℕ
+rowsWritten (given progress) = rowsCounted progress
+rowsWritten (refused f) = 0
+
+-- Rule 7.13: two questions with these lists answer alike; where the lists agree behind the rows written, so do they afterwards
+pub record SameRows (list other : Places) (a b : RowsOutcome) : Type 0 where
+  pub answer : a .answer ≡ b .answer
+  pub after : drop (rowsWritten (a .answer)) list ≡ drop (rowsWritten (a .answer)) other → a .list ≡ b .list
+
+pub record Dependence (len : ℕ) (map : Words) (q : Question) (image : Bytes) : Type 0 where
+  -- Rules 7.1 to 7.7 and 7.12
+  pub those : DecidedBy (relevant len (memory image map) q) len map q image
+  -- Rule 7.9
   pub held : DecidedBy (heldByte len map) len map q image
-  -- "nor, outside those, does a byte of an absent row or of a page off the chain."
+  -- Rule 7.10
   pub others : DecidedBy (λ (i : ℕ). not (unreadFor len (memory image map) q i)) len map q image
-  -- "bytes past L and words past the counted ones are neither read nor written."
-  pub counted : (other words : List ℕ) → SameCounted len (memory image map) (memory other words) → answerOn len map q image ≡ answerOn len words q other
+  -- Rule 7.11
+  pub inUse : (other : Bytes) (words : Words) → SameInUse len (memory image map) (memory other words) → answerOn len map q image ≡ answerOn len words q other
+  -- Rule 7.13
+  pub lists : (table : ℕ) (list other : Places) → length list ≡ length other
+      → SameRows list other (askRows len (memory image map) table list) (askRows len (memory image map) table other)
 
 -- for every length, map, question and image
 abbrev pub EveryQuestion : Type 0
-EveryQuestion = (len : ℕ) (map : List ℕ) (q : Question) (image : List ℕ) → Dependence len map q image
+EveryQuestion = (len : ℕ) (map : Words) (q : Question) (image : Bytes) → Dependence len map q image

@@ -1,35 +1,45 @@
--- Which bytes count, by example: case D of document 01 with a fourth page, which is off the chain.
+-- Rules 7.2 to 7.8, 7.10 and 7.12 by example: a file of four pages, of which page 3 is off the chain, and two that differ a little.
 -- An example holds when the definitions say of a byte what is said here.
 use mathlib.Core.Path.{_≡_}
 use mathlib.Core.Bool.{Bool, true, false}
-use mathlib.Core.List.{List, [], _∷_}
+use mathlib.Core.List.{List, [], _∷_, map}
 use Prim.Native.Nat.{ℕ, _+_}
 use lib.ListN.{set, replicate}
+use Rattle.lists.specs.Alias.{Bytes}
 use Rattle.intake.specs.Memory.{memory}
-use Rattle.run.specs.Call.{allRows}
-use Rattle.depend.specs.Bytes.{counts}
+use Rattle.run.specs.Call.{Question, allRows, oneText}
+use Rattle.depend.specs.Bytes.{relevant}
 use Rattle.depend.specs.Unread.{unreadFor}
 
 -- an image with these bytes from a place on
-abbrev pub put : List ℕ → ℕ → List ℕ → List ℕ
+abbrev pub put : (image : Bytes) (at : ℕ) (bytes : Bytes) → Bytes
 put image at [] = image
 put image at (b ∷ bytes) = put (set image at b) (at + 1) bytes
 
 -- len_page 512, one pointer: type 1, first 1, last 2
-abbrev pub header : List ℕ → List ℕ
+abbrev pub header : Bytes → Bytes
 header image = put (put (put image 0x04 (0x00 ∷ 0x02 ∷ [])) 0x08 (1 ∷ [])) 0x1c (1 ∷ 0 ∷ 0 ∷ 0 ∷ 0 ∷ 0 ∷ 0 ∷ 0 ∷ 1 ∷ 0 ∷ 0 ∷ 0 ∷ 2 ∷ [])
 
 -- page 1 has flags `64`, next 2
-abbrev pub pageOne : List ℕ → List ℕ
+abbrev pub pageOne : Bytes → Bytes
 pageOne image = put (put (put (put image 516 (1 ∷ [])) 520 (1 ∷ [])) 524 (2 ∷ [])) 539 (0x64 ∷ [])
 
--- page 2 has byte `18` = 2, byte `19` = `20`, flags `24`, offsets 0 and 16, presence `0002`, and at offset 16 id 7 and `0b` then Funk
-abbrev pub pageTwo : List ℕ → List ℕ
+-- page 2 counts two entries and has flags `24`; entry 1 alone is present, with offset 16: there stand id 7 and a short string of four characters
+abbrev pub pageTwo : Bytes → Bytes
 pageTwo image =
-    put (put (put (put (put (put image 1028 (2 ∷ [])) 1032 (1 ∷ [])) 1048 (2 ∷ 0x20 ∷ 0 ∷ 0x24 ∷ [])) 1080 (7 ∷ 0 ∷ 0 ∷ 0 ∷ 0x0b ∷ 70 ∷ 117 ∷ 110 ∷ 107 ∷ [])) 1528 (16 ∷ [])) 1532 (2 ∷ [])
+    put (put (put (put (put (put image 1028 (2 ∷ [])) 1032 (1 ∷ [])) 1048 (2 ∷ 0x20 ∷ 0 ∷ 0x24 ∷ []))
+    1080 (7 ∷ 0 ∷ 0 ∷ 0 ∷ 0x0b ∷ 70 ∷ 117 ∷ 110 ∷ 107 ∷ [])) 1528 (16 ∷ [])) 1532 (2 ∷ [])
 
-abbrev pub image : List ℕ
-image = pageTwo (pageOne (header (replicate 2048 0)))
+abbrev pub genres : Bytes
+genres = pageTwo (pageOne (header (replicate 2048 0)))
+
+-- the present row starts three bytes before the row index
+abbrev pub unfit : Bytes
+unfit = put genres 1528 (0xcd ∷ 0x01 ∷ [])
+
+-- the same pages as table 2: the present row has subtype 7, which there is not
+abbrev pub artists : Bytes
+artists = put (put (put genres 0x1c (2 ∷ [])) 520 (2 ∷ [])) 1032 (2 ∷ [])
 
 pub record Example : Type 0 where
   pub found : Bool
@@ -45,40 +55,52 @@ withoutTwo = 11
 abbrev pub withoutZero : ℕ
 withoutZero = 14
 
--- byte i counts for all rows of table 1, or it does not
-abbrev pub counted : ℕ → ℕ → Example
-counted blocks i = record { found = counts 2048 (memory image (blocks ∷ [])) (allRows 1 []) i; said = true }
+-- for all rows of table 1 byte i is relevant, or it is not
+abbrev pub yes : (blocks i : ℕ) → Example
+yes blocks i = record { found = relevant 2048 (memory genres (blocks ∷ [])) (allRows 1 []) i; said = true }
 
-abbrev pub uncounted : ℕ → ℕ → Example
-uncounted blocks i = record { found = counts 2048 (memory image (blocks ∷ [])) (allRows 1 []) i; said = false }
+abbrev pub no : (blocks i : ℕ) → Example
+no blocks i = record { found = relevant 2048 (memory genres (blocks ∷ [])) (allRows 1 []) i; said = false }
 
--- byte i is one of an absent row or of a page off the chain, outside those that count, or it is not; every block is held
+-- the same of another question over another image, with every block held
+abbrev pub yesIn : (image : Bytes) (q : Question) (i : ℕ) → Example
+yesIn image q i = record { found = relevant 2048 (memory image (all ∷ [])) q i; said = true }
+
+abbrev pub noIn : (image : Bytes) (q : Question) (i : ℕ) → Example
+noIn image q i = record { found = relevant 2048 (memory image (all ∷ [])) q i; said = false }
+
+-- byte i is unread, or it is not; every block is held
 abbrev pub unread : ℕ → Example
-unread i = record { found = unreadFor 2048 (memory image (all ∷ [])) (allRows 1 []) i; said = true }
+unread i = record { found = unreadFor 2048 (memory genres (all ∷ [])) (allRows 1 []) i; said = true }
 
-abbrev pub other : ℕ → Example
-other i = record { found = unreadFor 2048 (memory image (all ∷ [])) (allRows 1 []) i; said = false }
+abbrev pub read : ℕ → Example
+read i = record { found = unreadFor 2048 (memory genres (all ∷ [])) (allRows 1 []) i; said = false }
 
 abbrev pub examples : List Example
 examples =
-    -- block 0: len_page and what stands behind num_tables; the pointer, and where a second one would be
-    counted all 0x04 ∷ uncounted all 0x0c ∷ counted all 0x1c ∷ uncounted all 0x2c ∷
-    -- page 1, with flag `40`: page_index, next_page and page_flags; nothing of its heap, its presence flags or its pad bytes
-    counted all 516 ∷ counted all 524 ∷ counted all 539 ∷ uncounted all 552 ∷ uncounted all 1020 ∷ uncounted all 1022 ∷
-    -- page 2: its counts, and the byte between them and page_flags
-    counted all 1048 ∷ uncounted all 1049 ∷ counted all 1051 ∷ counted all 1058 ∷
+    -- block 0: len_page and what stands behind num_tables; the pointer with its empty_candidate, and where a second one would be
+    yes all 0x04 ∷ no all 0x0c ∷ yes all 0x1c ∷ yes all 0x20 ∷ no all 0x2c ∷
+    -- page 1, with flag `40`: page_index, next_page, both counts and page_flags; nothing of its heap, its presence flags or its pad bytes
+    yes all 516 ∷ yes all 524 ∷ yes all 536 ∷ yes all 546 ∷ yes all 539 ∷ no all 552 ∷ no all 1020 ∷ no all 1022 ∷
+    -- page 2, the last: its next_page and its counts, and the byte between them and page_flags
+    yes all 1036 ∷ yes all 1048 ∷ no all 1049 ∷ yes all 1051 ∷ yes all 1058 ∷
     -- its absent row, the heap between the rows, and its present row with its string, to the last byte of the text
-    uncounted all 1064 ∷ uncounted all 1067 ∷ uncounted all 1079 ∷ counted all 1080 ∷ counted all 1084 ∷ counted all 1088 ∷ uncounted all 1089 ∷
+    no all 1064 ∷ no all 1067 ∷ no all 1079 ∷ yes all 1080 ∷ yes all 1084 ∷ yes all 1088 ∷ no all 1089 ∷
     -- its row index: the present entry's offset, the absent entry's, the presence flags, the pad bytes
-    counted all 1528 ∷ uncounted all 1530 ∷ counted all 1532 ∷ uncounted all 1534 ∷ uncounted all 1535 ∷
+    yes all 1528 ∷ no all 1530 ∷ yes all 1532 ∷ no all 1534 ∷ no all 1535 ∷
     -- page 3, off the chain
-    uncounted all 1540 ∷ uncounted all 2044 ∷
+    no all 1540 ∷ no all 2044 ∷
     -- with page 2 missing, and with block 0 missing
-    uncounted withoutTwo 1080 ∷ counted withoutTwo 524 ∷ uncounted withoutZero 0x04 ∷
+    no withoutTwo 1080 ∷ yes withoutTwo 524 ∷ no withoutZero 0x04 ∷
+    -- a present row that does not fit: its offset, and none of its three bytes
+    yesIn unfit (allRows 1 []) 1529 ∷ noIn unfit (allRows 1 []) 1525 ∷ noIn unfit (allRows 1 []) 1527 ∷
+    -- an artist row of unknown subtype: its subtype, and nothing behind it
+    yesIn artists (allRows 2 []) 1080 ∷ yesIn artists (allRows 2 []) 1081 ∷ noIn artists (allRows 2 []) 1082 ∷ noIn artists (allRows 2 []) 1089 ∷
+    -- nothing for a table or a slot that there is not
+    noIn genres (allRows 9 []) 0x04 ∷ yesIn genres (oneText 1 0 0) 0x04 ∷ noIn genres (oneText 1 0 1) 0x04 ∷
     -- the absent row's first byte and a byte of page 3 are unread, the present row's and the pointer's are not
-    unread 1064 ∷ unread 1540 ∷ other 1080 ∷ other 0x1c ∷
+    unread 1064 ∷ unread 1540 ∷ read 1080 ∷ read 0x1c ∷
     []
 
-abbrev pub AllHold : List Example → Type 0
-AllHold [] = Unit {0}
-AllHold (e ∷ rest) = (e .found ≡ e .said) × AllHold rest
+abbrev pub ExamplesHold : List Example → Type 0
+ExamplesHold list = map (λ (e : Example). e .found) list ≡ map (λ (e : Example). e .said) list

@@ -1,4 +1,5 @@
 // Runs the desk program's commands over stored inputs: one for each argument, each as a run of its own; then a delivery cut at every place.
+use desk_steps::Command;
 use libc::STDOUT_FILENO;
 
 fn say_path(path: &[u8]) {
@@ -24,7 +25,7 @@ fn run_rest(path: &[u8], n: usize, image: &mut [u8], map: &mut [u64], list: &mut
         return;
     }
     skip(fd, n);
-    console::run(fd, image, map, list);
+    desk_commands::run(fd, image, map, list);
     libc::close(fd);
 }
 
@@ -53,7 +54,7 @@ fn run_args(path: &mut [u8], image: &mut [u8], map: &mut [u64], list: &mut [u32]
 fn run_cuts(image: &mut [u8], map: &mut [u64], list: &mut [u32]) {
     say_path(b"cut_2");
     let mut n = 0;
-    while n < 516 {
+    while n < Command::LONGEST {
         run_rest(b"cut_2", n, image, map, list);
         n += 1;
     }

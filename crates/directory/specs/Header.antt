@@ -1,58 +1,59 @@
--- Document 01, File header and directory: "All of it stands in block 0". The fields in file order, under the published names of 003.
+-- The file header in block 0, its fields in file order under the published names, and when it is not broken.
+-- Rules 3.1 and 3.3 to 3.8. Rests on the numbers of crate `number`.
 use mathlib.Core.Bool.{Bool, not, _&&_}
-use mathlib.Core.List.{List}
 use Prim.Native.Nat.{ℕ, _+_, _*_, _%_}
 use lib.Dec.{leb, eqb}
-use Rattle.field.specs.Number.{le32}
-use Rattle.field.specs.Size.{blockSize}
-use Rattle.field.specs.Any.{anyFrom}
+use Rattle.lists.specs.Alias.{Bytes}
+use Rattle.lists.specs.Any.{anyFrom}
+use Rattle.number.specs.Number.{le32}
+use Rattle.format.specs.Size.{blockSize}
 
 -- bytes `00`-`03`
-abbrev pub zeros : List ℕ → ℕ
+abbrev pub zeros : Bytes → ℕ
 zeros block = le32 block 0x00
 
-abbrev pub len-page : List ℕ → ℕ
+abbrev pub len-page : Bytes → ℕ
 len-page block = le32 block 0x04
 
-abbrev pub num-tables : List ℕ → ℕ
+abbrev pub num-tables : Bytes → ℕ
 num-tables block = le32 block 0x08
 
--- "Pointers start at `1c`, 16 bytes each: type, empty_candidate, first_page, last_page."
+-- Rule 3.8: where pointer i starts
 abbrev pub pointerAt : ℕ → ℕ
 pointerAt i = 0x1c + 16 * i
 
-abbrev pub type : List ℕ → ℕ → ℕ
+abbrev pub type : Bytes → ℕ → ℕ
 type block i = le32 block (pointerAt i)
 
-abbrev pub empty-candidate : List ℕ → ℕ → ℕ
+abbrev pub empty-candidate : Bytes → ℕ → ℕ
 empty-candidate block i = le32 block (pointerAt i + 0x04)
 
-abbrev pub first-page : List ℕ → ℕ → ℕ
+abbrev pub first-page : Bytes → ℕ → ℕ
 first-page block i = le32 block (pointerAt i + 0x08)
 
-abbrev pub last-page : List ℕ → ℕ → ℕ
+abbrev pub last-page : Bytes → ℕ → ℕ
 last-page block i = le32 block (pointerAt i + 0x0c)
 
--- "len_page at `04` a multiple of 512 from 512 to 32,768 that divides L"
+-- Rule 3.5, in a file of len bytes
 unfoldable pub allowedPage : ℕ → ℕ → Bool
 allowedPage len size = leb blockSize size && (leb size 32_768 && (eqb (size % blockSize) 0 && eqb (len % size) 0))
 
--- "num_tables at `08` from 1 to 30"
+-- Rule 3.6
 unfoldable pub allowedTables : ℕ → Bool
 allowedTables n = leb 1 n && leb n 30
 
--- is true exactly when one of the first n pointers has this type
-unfoldable pub hasType : List ℕ → ℕ → ℕ → Bool
+-- is true exactly when one of the first n pointers has type t
+unfoldable pub hasType : (block : Bytes) (n t : ℕ) → Bool
 hasType block n t = anyFrom (λ (i : ℕ). eqb (type block i) t) n 0
 
 -- is true exactly when one of the first n pointers has the type of one before it
-unfoldable pub typeTwice : List ℕ → ℕ → Bool
+unfoldable pub typeTwice : Bytes → ℕ → Bool
 typeTwice block n = anyFrom (λ (i : ℕ). hasType block i (type block i)) n 0
 
--- ".. from 1 to 30; no two pointers of one type"
-unfoldable pub tablesHold : List ℕ → ℕ → Bool
+-- Rules 3.6 and 3.7
+unfoldable pub tablesHold : Bytes → ℕ → Bool
 tablesHold block n = allowedTables n && not (typeTwice block n)
 
--- the rules for 9, in a file of len bytes: "bytes `00`-`03` zero; len_page ..; num_tables ..; no two pointers of one type"
-unfoldable pub headerHolds : ℕ → List ℕ → Bool
+-- Rule 3.3: the header of a file of len bytes breaks none of rules 3.4 to 3.7
+unfoldable pub headerHolds : ℕ → Bytes → Bool
 headerHolds len block = eqb (zeros block) 0 && (allowedPage len (len-page block) && tablesHold block (num-tables block))

@@ -1,4 +1,5 @@
 pub mod Header
 pub mod Directory
-pub mod Pointer
+pub mod Chain
+pub mod Private
 pub mod Bytes

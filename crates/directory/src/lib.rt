@@ -1,15 +1,16 @@
-// The file header and its directory of table pointers. All of it stands in the first block of the file.
+// The file header and its directory of table pointers. All of it stands in block 0.
 ghost use mathlib.Core.Path.{_≡_};
 ghost use mathlib.Core.Bool.{true};
 ghost use Prim.Native.Nat.{_≤_};
 ghost use lib.ListN.{take};
 ghost use Rattle.directory.specs.Header.{type, allowedPage, allowedTables, hasType, typeTwice, tablesHold, headerHolds};
-ghost use Rattle.directory.specs.Directory.{pointerOf, noPointer, kept, directoryOf, noDirectory, headerOf};
-ghost use Rattle.directory.specs.Pointer.{tested, pointerAmong, pointerFor, askedOf};
-use field::Block;
-use field::Page;
-use field::Refusal;
-use row::Table;
+ghost use Rattle.directory.specs.Directory.{pointerIn, noPointer, kept, fileDirectory, noDirectory, readHeader};
+ghost use Rattle.directory.specs.Chain.{pointerAmong, linkedChain, chainIn, chainReplyOf};
+ghost use Rattle.directory.specs.Private.{pointerReplyOf};
+use format::Block;
+use format::Page;
+use refusal::Refusal;
+use table::Table;
 
 // A table's pointer, under the published names.
 pub struct Pointer {
@@ -19,10 +20,10 @@ pub struct Pointer {
     pub last_page: u32,
 }
 
-// The directory of a file: its page length, its number of pages, and its pointers, so many of which count.
+// The directory of a file: its page length, its number of pages, and its pointers, of which the first count are in use.
 pub struct Directory {
     pub len_page: u32,
-    pub pages: u64,
+    pub page_count: u64,
     pub count: u32,
     pub pointers: [Pointer; 30],
 }
@@ -33,8 +34,21 @@ pub struct Header {
     pub directory: Directory,
 }
 
-// The pointer of a table.
-pub enum Asked {
+// The chain of a table: page length and number of pages of the file, and the table's first and last page.
+pub struct Chain {
+    pub len_page: u32,
+    pub page_count: u64,
+    pub first_page: u32,
+    pub last_page: u32,
+}
+
+// The chain of a table, or why it has none.
+pub enum ChainReply {
+    Found(Chain),
+    Refused(Refusal),
+}
+
+enum PointerReply {
     Found(Pointer),
     Refused(Refusal),
 }
@@ -42,18 +56,18 @@ pub enum Asked {
 fn type_at(block: &[u8], i: u32) -> u32
     ensures { λ r. ⌜ r ≡ type (now (block .entry)) i ⌝ }
 {
-    field::u32_at(block, 0x1c + 16 * (i as usize))
+    number::u32_at(block, 0x1c + 16 * (i as usize))
 }
 
 fn pointer_at(block: &[u8], i: u32) -> Pointer
-    ensures { λ r. ⌜ r ≡ pointerOf (now (block .entry)) i ⌝ }
+    ensures { λ r. ⌜ r ≡ pointerIn (now (block .entry)) i ⌝ }
 {
     let at = 0x1c + 16 * (i as usize);
     Pointer {
-        table_type: field::u32_at(block, at),
-        empty_candidate: field::u32_at(block, at + 0x04),
-        first_page: field::u32_at(block, at + 0x08),
-        last_page: field::u32_at(block, at + 0x0c),
+        table_type: number::u32_at(block, at),
+        empty_candidate: number::u32_at(block, at + 0x04),
+        first_page: number::u32_at(block, at + 0x08),
+        last_page: number::u32_at(block, at + 0x0c),
     }
 }
 
@@ -131,11 +145,11 @@ fn tables_hold(block: &[u8], n: u32) -> bool
 fn header_holds(block: &[u8], len: u64) -> bool
     ensures { λ r. ⌜ r ≡ headerHolds len (now (block .entry)) ⌝ }
 {
-    if field::u32_at(block, 0x00) != 0 {
+    if number::u32_at(block, 0x00) != 0 {
         return false;
     }
-    if allowed_page(len, field::u32_at(block, 0x04)) {
-        tables_hold(block, field::u32_at(block, 0x08))
+    if allowed_page(len, number::u32_at(block, 0x04)) {
+        tables_hold(block, number::u32_at(block, 0x08))
     } else {
         false
     }
@@ -157,66 +171,58 @@ fn keep(block: &[u8], n: u32) -> [Pointer; 30]
     all
 }
 
-fn no_directory() -> Directory
-    ensures { λ r. ⌜ r ≡ noDirectory ⌝ }
-{
-    let blank = no_pointer();
-    Directory {
-        len_page: 0,
-        pages: 0,
-        count: 0,
-        pointers: [blank; 30],
-    }
-}
-
 // The directory of a header that holds.
 fn directory_of(block: &[u8], len: u64) -> Directory
     requires { ⌜ headerHolds len (now block) ≡ true ⌝ }
-    ensures { λ r. ⌜ r ≡ directoryOf len (now (block .entry)) ⌝ }
+    ensures { λ r. ⌜ r ≡ fileDirectory len (now (block .entry)) ⌝ }
 {
-    let size = field::u32_at(block, 0x04);
-    let n = field::u32_at(block, 0x08);
+    let size = number::u32_at(block, 0x04);
+    let n = number::u32_at(block, 0x08);
     Directory {
         len_page: size,
-        pages: len / (size as u64),
+        page_count: len / (size as u64),
         count: n,
         pointers: keep(block, n),
     }
 }
 
-// The pointer, where its links are inside the file.
-fn test_links(pages: u64, p: Pointer) -> Asked
-    ensures { λ r. ⌜ askedOf r ≡ tested pages p ⌝ }
+// The chain that a pointer names, where its links are inside the file.
+fn linked_chain(d: Directory, p: Pointer) -> ChainReply
+    ensures { λ r. ⌜ chainReplyOf r ≡ linkedChain d p ⌝ }
 {
-    if !Page::linkable(pages, p.first_page) {
-        return Asked::Refused(Refusal::PageLink(0));
+    if !Page::linkable(d.page_count, p.first_page) {
+        return ChainReply::Refused(Refusal::PageLink(0));
     }
-    if Page::linkable(pages, p.last_page) {
-        Asked::Found(p)
-    } else {
-        Asked::Refused(Refusal::PageLink(0))
+    if !Page::linkable(d.page_count, p.last_page) {
+        return ChainReply::Refused(Refusal::PageLink(0));
     }
+    ChainReply::Found(Chain {
+        len_page: d.len_page,
+        page_count: d.page_count,
+        first_page: p.first_page,
+        last_page: p.last_page,
+    })
 }
 
-fn find(pointers: [Pointer; 30], count: u32, pages: u64, t: u32) -> Asked
-    ensures { λ r. ⌜ askedOf r ≡ pointerAmong pages t (take count pointers) ⌝ }
+fn find(pointers: [Pointer; 30], count: u32, t: u32) -> PointerReply
+    ensures { λ r. ⌜ pointerReplyOf r ≡ pointerAmong t (take count pointers) ⌝ }
 {
     let mut i: usize = 0;
     let n = if count < 30 { count as usize } else { 30 };
     while i < n {
         let p = pointers[i];
         if p.table_type == t {
-            return test_links(pages, p);
+            return PointerReply::Found(p);
         }
         i += 1;
     }
-    Asked::Refused(Refusal::NoPointer)
+    PointerReply::Refused(Refusal::NoPointer)
 }
 
 impl Directory {
-    // The directory of a file of len bytes, from its first block.
+    // The directory of a file of len bytes, from its block 0.
     pub fn read(block: &[u8], len: u64) -> Header
-        ensures { λ r. ⌜ r ≡ headerOf len (now (block .entry)) ⌝ }
+        ensures { λ r. ⌜ r ≡ readHeader len (now (block .entry)) ⌝ }
     {
         if header_holds(block, len) {
             let directory = directory_of(block, len);
@@ -225,7 +231,7 @@ impl Directory {
                 directory,
             }
         } else {
-            let directory = no_directory();
+            let directory = Directory::none();
             Header {
                 ok: false,
                 directory,
@@ -233,13 +239,29 @@ impl Directory {
         }
     }
 
-    // The pointer of a table, whose first and last page are inside the file.
-    pub fn pointer(self, table: Table) -> Asked
-        ensures { λ r. ⌜ askedOf r ≡ pointerFor self table ⌝ }
+    // A directory of zeros.
+    pub fn none() -> Directory
+        ensures { λ r. ⌜ r ≡ noDirectory ⌝ }
+    {
+        let blank = no_pointer();
+        Directory {
+            len_page: 0,
+            page_count: 0,
+            count: 0,
+            pointers: [blank; 30],
+        }
+    }
+
+    // The chain of a table, whose first and last page are inside the file.
+    pub fn chain(self, table: Table) -> ChainReply
+        ensures { λ r. ⌜ chainReplyOf r ≡ chainIn self table ⌝ }
     {
         let pointers = self.pointers;
         let count = self.count;
-        let pages = self.pages;
-        find(pointers, count, pages, table.number())
+        let found = find(pointers, count, table.number());
+        match found {
+            PointerReply::Found(p) => linked_chain(self, p),
+            PointerReply::Refused(refusal) => ChainReply::Refused(refusal),
+        }
     }
 }

@@ -1,9 +1,11 @@
-// Runs the cases of document 01's "Near the edges" and writes a line for each: C1 to C12 in order, then the other ones.
+// Runs the cases of rules 9.1 to 9.4 and writes a line for each: C1 to C3 and a file of 32,768 bytes, a page of no entries,
+// C5 to C8, C9 to C12, and the other two strings. C4 is a theorem alone.
 use intake::Opened;
 use libc::STDOUT_FILENO;
 use page::PageRead;
+use refusal::Refusal;
 use row::Check;
-use row::Table;
+use table::Table;
 use text::Text;
 
 fn say(word: &[u8], n: u64) {
@@ -12,10 +14,15 @@ fn say(word: &[u8], n: u64) {
     io::write_all(STDOUT_FILENO, b"\n");
 }
 
+fn say_refused(refusal: Refusal) {
+    let fault = refusal.fault();
+    say(b"refused ", fault.number as u64);
+}
+
 fn say_open(len: u64, image: &[u8], map: &mut [u64]) {
     match intake::open(len, image, map) {
         Opened::Open { intake: _, blocks } => say(b"open ", blocks),
-        Opened::Refused(refusal) => say(b"refused ", refusal.number() as u64),
+        Opened::Refused(refusal) => say_refused(refusal),
     }
 }
 
@@ -35,7 +42,7 @@ fn say_page(page: &mut [u8], small: u8, large: u16) {
     set_header(page, small, large);
     match page::read(page, 1, Table::Genres) {
         PageRead::Rows(rows) => say(b"rows ", rows as u64),
-        PageRead::Refused(refusal) => say(b"refused ", refusal.number() as u64),
+        PageRead::Refused(refusal) => say_refused(refusal),
     }
 }
 
@@ -51,20 +58,20 @@ fn say_part(row: &[u8], place: usize, len: usize) {
 
 // A genre row: four bytes of id, then the string.
 fn say_name(row: &[u8]) {
-    match Table::Genres.check(row) {
+    match row::check_row(Table::Genres, row) {
         Check::Good => {
-            let found = Table::Genres.text(row, 0);
+            let found = row::slot_text(Table::Genres, row, 0);
             match found {
                 Text::At {
                     place,
                     len,
                     encoding: _,
                 } => say_part(row, place, len),
-                Text::Malformed => say(b"malformed ", 0),
+                Text::Malformed => say_refused(Refusal::TextFault(1)),
             }
         }
-        Check::RowFault => say(b"refused ", 14),
-        Check::TextFault => say(b"refused ", 15),
+        Check::RowFault => say_refused(Refusal::RowShort(1)),
+        Check::TextFault => say_refused(Refusal::TextFault(1)),
     }
 }
 
@@ -79,6 +86,8 @@ fn pages(page: &mut [u8]) {
     say_page(page, 0, 0);
     say_page(page, 208, 0);
     say_page(page, 209, 0);
+    say_page(page, 5, 5);
+    say_page(page, 5, 3);
     say_page(page, 5, 0x1fff);
     say_page(page, 5, 300);
 }

@@ -1,9 +1,10 @@
 pub mod OwnFault
+pub mod Asked
 pub mod Walk
 pub mod Reads
-pub mod Places
-pub mod Place
 pub mod Rows
+pub mod Found
 pub mod Row
 pub mod Record
 pub mod Text
+pub mod Private

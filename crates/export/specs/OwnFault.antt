@@ -1,6 +1,6 @@
--- Document 01, Refusal numbers: "The file's own faults are 9 to 16."
+-- Rule 2.24: the faults of the file's own.
 use Prim.Native.Nat.{_≤_}
-use Rattle.field.specs.Fault.{Fault}
+use Rattle.refusal.specs.declared.Fault.{Fault}
 
 pub record OwnFault (f : Fault) : Type 0 where
   pub least : 9 ≤ f .number

@@ -1,28 +1,29 @@
--- Document 01, Questions: "record k (from 0) of a table".
+-- The question for record k of a table: rules 2.28 and 5.21.
 use Prim.Native.Nat.{ℕ}
-use Rattle.field.specs.Fault.{faultOf, Answer, given, refused as unread}
-use Rattle.row.specs.declared.Table.{Table}
-use Rattle.row.specs.declared.Record.{Record}
-use Rattle.row.specs.Record.{recordOf}
+use Rattle.refusal.specs.Fault.{faultOf}
+use Rattle.refusal.specs.Answer.{Answer, given, refused, andThen}
+use Rattle.table.specs.declared.Table.{Table}
+use Rattle.row.specs.Record.{RowRecord, readRecord, recordOf}
 use Rattle.intake.specs.Memory.{Memory}
 use Rattle.export.specs.declared.RecordReply.{RecordReply}
 use Rattle.export.specs.declared.RecordReply.the-variants.{Found, Waiting, Refused}
-use Rattle.export.specs.Walk.{sizeOf, tableWalk, askedTable}
-use Rattle.export.specs.Row.{Reply, answered, waits, refuses, settleRow, rowPart}
+use Rattle.export.specs.Asked.{askedTable}
+use Rattle.export.specs.Walk.{pageSize, tableWalk}
+use Rattle.export.specs.Found as row
+use Rattle.export.specs.Row.{settleRow, rowPart}
 
 -- the record of the row at a place
-abbrev pub recordAt : Memory → Table → ℕ → Reply Record
-recordAt m table place = answered (recordOf table (rowPart (sizeOf m) (m .image) place))
+abbrev pub recordAt : (m : Memory) (table : Table) (place : ℕ) → Answer (row.Found RowRecord)
+recordAt m table place = given (row.found (readRecord table (rowPart (pageSize m) (m .image) place)))
 
-abbrev pub recordIn : ℕ → Memory → ℕ → Answer Table → Reply Record
-recordIn len m k (given table) = settleRow (recordAt m table) k (tableWalk len m table)
-recordIn len m k (unread f) = refuses f
+abbrev pub recordIn : (len : ℕ) (m : Memory) (k : ℕ) (table : Table) → Answer (row.Found RowRecord)
+recordIn len m k table = settleRow (recordAt m table) k (tableWalk len m table)
 
-unfoldable pub askRecord : ℕ → Memory → ℕ → ℕ → Reply Record
-askRecord len m number k = recordIn len m k (askedTable len m number)
+unfoldable pub askRecord : (len : ℕ) (m : Memory) (number k : ℕ) → Answer (row.Found RowRecord)
+askRecord len m number k = andThen (askedTable len m number) (recordIn len m k)
 
--- document 01's answer for each case of the code's enum
-abbrev pub recordAs : RecordReply → Reply Record
-recordAs (Found found) = answered found
-recordAs (Waiting page rows pages) = waits page rows pages
-recordAs (Refused refusal) = refuses (faultOf refusal)
+-- the answer for each case of the code's enum
+abbrev pub recordReplyOf : RecordReply → Answer (row.Found RowRecord)
+recordReplyOf (Found found) = given (row.found (recordOf found))
+recordReplyOf (Waiting page rows pages) = given (row.waiting page rows pages)
+recordReplyOf (Refused refusal) = refused (faultOf refusal)

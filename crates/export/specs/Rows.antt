@@ -1,43 +1,55 @@
--- Document 01, Questions: "all rows of a table".
-use mathlib.Core.Bool.{cond}
-use mathlib.Core.List.{List}
+-- The question for all rows: the answer, and the list afterwards. Rules 2.22, 2.28, 4.10 and 5.20.
+use mathlib.Core.List.{[]}
 use Prim.Native.Nat.{ℕ}
 use lib.ListN.{length}
 use lib.Dec.{ltb}
-use Rattle.field.specs.Fault.{fault, Answer, given, refused as unread}
-use Rattle.row.specs.declared.Table.{Table}
-use Rattle.page.specs.Read.{written}
+use Rattle.lists.specs.Alias.{Places}
+use Rattle.refusal.specs.Fault.{fault}
+use Rattle.refusal.specs.Answer.{given, refused, refuseIf, andThen}
+use Rattle.lists.specs.Write.{written}
 use Rattle.intake.specs.Memory.{Memory}
 use Rattle.chain.specs.declared.Walked.{Walked}
-use Rattle.chain.specs.Walk.{Walk, full, waiting, refused}
-use Rattle.chain.specs.Tally.{walkedAs}
-use Rattle.export.specs.Walk.{tableWalk, askedTable}
+use Rattle.chain.specs.Walk.{Progress, Walk, full, waiting}
+use Rattle.chain.specs.Tally.{tally, walkedOf}
+use Rattle.export.specs.Asked.{askedTable}
+use Rattle.export.specs.Walk.{tableWalk}
 
--- the answer, and the list afterwards
 pub record RowsOutcome : Type 0 where
   pub answer : Walk ℕ
-  pub list : List ℕ
+  pub list : Places
 
-abbrev pub rowsOutcome : Walk ℕ → List ℕ → RowsOutcome
+abbrev pub rowsOutcome : Walk ℕ → Places → RowsOutcome
 rowsOutcome answer list = record { answer = answer; list = list }
 
--- 17: "all rows asked, walk Full or Waiting, list shorter than the rows found", carrying the rows found.
--- Else the places are written "to the front of the list; the rest of the list stays".
-abbrev pub placed : List ℕ → List ℕ → Walk ℕ → RowsOutcome
-placed list rows answer = cond (ltb (length list) (length rows)) (rowsOutcome (refused (fault 17 (length rows))) list) (rowsOutcome answer (written list rows))
+-- the number of rows found
+abbrev pub rowsCounted : Progress ℕ → ℕ
+rowsCounted (full rows pages) = rows
+rowsCounted (waiting page rows pages) = rows
 
-abbrev pub settleRows : List ℕ → Walk (List ℕ) → RowsOutcome
-settleRows list (full rows pages) = placed list rows (full (length rows) pages)
-settleRows list (waiting page rows pages) = placed list rows (waiting page (length rows) pages)
-settleRows list (refused f) = rowsOutcome (refused f) list
+-- the places of the rows found
+abbrev pub rowsFound : Walk Places → Places
+rowsFound (given (full rows pages)) = rows
+rowsFound (given (waiting page rows pages)) = rows
+rowsFound (refused f) = []
 
-abbrev pub rowsOf : ℕ → Memory → List ℕ → Answer Table → RowsOutcome
-rowsOf len m list (given table) = settleRows list (tableWalk len m table)
-rowsOf len m list (unread f) = rowsOutcome (refused f) list
+-- Rule 5.20: 17 comes behind the walk's own refusals
+abbrev pub rowsAnswer : Places → Walk Places → Walk ℕ
+rowsAnswer list walk =
+    andThen (tally walk) (λ progress.
+    refuseIf (ltb (length list) (rowsCounted progress)) (fault 17 (rowsCounted progress))
+    (given progress))
 
-unfoldable pub askRows : ℕ → Memory → ℕ → List ℕ → RowsOutcome
-askRows len m number list = rowsOf len m list (askedTable len m number)
+-- Rules 2.22 and 4.10: a refusal leaves the list
+abbrev pub listAfter : (list : Places) (walk : Walk Places) (answer : Walk ℕ) → Places
+listAfter list walk (given progress) = written list (rowsFound walk)
+listAfter list walk (refused f) = list
 
--- document 01's answer for each case of the code's enum, and the list afterwards
-abbrev pub rowsAs : Walked → List ℕ → RowsOutcome
-rowsAs r list = rowsOutcome (walkedAs r) list
+abbrev pub settleRows : Places → Walk Places → RowsOutcome
+settleRows list walk = rowsOutcome (rowsAnswer list walk) (listAfter list walk (rowsAnswer list walk))
+
+unfoldable pub askRows : (len : ℕ) (m : Memory) (number : ℕ) (list : Places) → RowsOutcome
+askRows len m number list = settleRows list (andThen (askedTable len m number) (tableWalk len m))
+
+-- the answer for each case of the code's enum, and the list afterwards
+abbrev pub rowsOf : Walked → Places → RowsOutcome
+rowsOf r list = rowsOutcome (walkedOf r) list

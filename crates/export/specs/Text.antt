@@ -1,45 +1,57 @@
--- Document 01, Questions: "string slot s of record k, answered by place, length in bytes and encoding".
-use mathlib.Core.Bool.{cond}
+-- The question for a string slot of record k of a table: rules 2.28, 5.22, 5.25 and 5.26.
+use mathlib.Core.Bool.{not}
 use Prim.Native.Nat.{ℕ, _+_, _/_}
 use lib.Dec.{ltb}
-use Rattle.field.specs.Fault.{fault, faultOf, Answer, given, refused as unread}
+use Rattle.lists.specs.Alias.{Bytes}
+use Rattle.refusal.specs.Fault.{fault, faultOf}
+use Rattle.refusal.specs.Answer.{Answer, given, refused, refuseIf, andThen}
 use Rattle.text.specs.declared.Encoding.{Encoding}
-use Rattle.text.specs.declared.Text.{Text}
-use Rattle.text.specs.declared.Text.the-variants.{At, Malformed}
-use Rattle.row.specs.declared.Table.{Table}
-use Rattle.row.specs.Layout.{slotCount}
+use Rattle.text.specs.Text.{TextAt}
+use Rattle.table.specs.declared.Table.{Table}
+use Rattle.table.specs.Table.{slotCount}
 use Rattle.row.specs.Slot.{slotText}
+use Rattle.page.specs.Read.{onPage}
 use Rattle.intake.specs.Memory.{Memory}
 use Rattle.export.specs.declared.TextReply.{TextReply}
 use Rattle.export.specs.declared.TextReply.the-variants.{Found, Waiting, Refused}
-use Rattle.export.specs.Walk.{sizeOf, tableWalk, askedTable}
-use Rattle.export.specs.Row.{Reply, answered, waits, refuses, settleRow, rowPart}
+use Rattle.export.specs.Asked.{askedTable}
+use Rattle.export.specs.Walk.{pageSize, tableWalk}
+use Rattle.export.specs.Found as row
+use Rattle.export.specs.Row.{settleRow, rowPart}
 
--- a text's place in the image, its length in bytes and its encoding
+-- Rule 5.22: as `TextAt` (crate `text`), but its place counts from the start of the file
 pub record TextPlace : Type 0 where
   pub place : ℕ
   pub len : ℕ
   pub encoding : Encoding
 
--- the text of a row at a place. A row that was found has no malformed string (proofs/FoundRows, `row-text`): 15 is the number that one would have.
-abbrev pub textReply : ℕ → ℕ → Text → Reply TextPlace
-textReply page row (At place len encoding) = answered (record { place = row + place; len = len; encoding = encoding })
-textReply page row Malformed = refuses (fault 15 page)
+abbrev pub textPlace : (place len : ℕ) (encoding : Encoding) → TextPlace
+textPlace place len encoding = record { place = place; len = len; encoding = encoding }
 
-abbrev pub textAt : Memory → Table → ℕ → ℕ → Reply TextPlace
-textAt m table slot place =
-    textReply (place / sizeOf m) place (slotText table (rowPart (sizeOf m) (m .image) place) slot)
+-- Rule 5.26: the text of the row at a place, where it is read from the row; 15 carries the page.
+-- A row that was found has no malformed string (proofs/FoundRow, `row-text`).
+abbrev pub textFound : (page place : ℕ) (text : Answer TextAt) → Answer (row.Found TextPlace)
+textFound page place text =
+    andThen (onPage page text) (λ t. given (row.found (textPlace (place + t .place) (t .len) (t .encoding))))
 
--- 19: "the table has no such string slot", after 8 and before the file
-abbrev pub textIn : ℕ → Memory → ℕ → ℕ → Answer Table → Reply TextPlace
-textIn len m k slot (given table) = cond (ltb slot (slotCount table)) (settleRow (textAt m table slot) k (tableWalk len m table)) (refuses (fault 19 0))
-textIn len m k slot (unread f) = refuses f
+-- the text of a slot of the row at a place, where pages have size bytes
+abbrev pub textOn : (size : ℕ) (image : Bytes) (table : Table) (slot place : ℕ) → Answer (row.Found TextPlace)
+textOn size image table slot place = textFound (place / size) place (slotText table (rowPart size image place) slot)
 
-unfoldable pub askText : ℕ → Memory → ℕ → ℕ → ℕ → Reply TextPlace
-askText len m number k slot = textIn len m k slot (askedTable len m number)
+abbrev pub textAt : (m : Memory) (table : Table) (slot place : ℕ) → Answer (row.Found TextPlace)
+textAt m table slot place = textOn (pageSize m) (m .image) table slot place
 
--- document 01's answer for each case of the code's enum
-abbrev pub textAs : TextReply → Reply TextPlace
-textAs (Found place len encoding) = answered (record { place = place; len = len; encoding = encoding })
-textAs (Waiting page rows pages) = waits page rows pages
-textAs (Refused refusal) = refuses (faultOf refusal)
+-- Rules 2.28, 5.25: 19 comes before the file
+abbrev pub textIn : (len : ℕ) (m : Memory) (k slot : ℕ) (table : Table) → Answer (row.Found TextPlace)
+textIn len m k slot table =
+    refuseIf (not (ltb slot (slotCount table))) (fault 19 0)
+    (settleRow (textAt m table slot) k (tableWalk len m table))
+
+unfoldable pub askText : (len : ℕ) (m : Memory) (number k slot : ℕ) → Answer (row.Found TextPlace)
+askText len m number k slot = andThen (askedTable len m number) (textIn len m k slot)
+
+-- the answer for each case of the code's enum
+abbrev pub textReplyOf : TextReply → Answer (row.Found TextPlace)
+textReplyOf (Found place len encoding) = given (row.found (textPlace place len encoding))
+textReplyOf (Waiting page rows pages) = given (row.waiting page rows pages)
+textReplyOf (Refused refusal) = refused (faultOf refusal)

@@ -12,7 +12,7 @@ use lib.Seq.{drop-cons}
 use lib.Dec.{eqb}
 use borrow.Author.Tests.{eqb-true, eq-eqb}
 use Rattle.intake.specs.Equal.{equal}
-use Rattle.field.proofs.Choice.{on, never, both-true}
+use Rattle.lists.proofs.Choice.{on, never, both-true}
 
 pub equal-step : (a b : List ℕ) (i : ℕ) → i < length a → i < length b
     → equal (drop i a) (drop i b) ≡ (eqb (getD a i 0) (getD b i 0) && equal (drop (i + 1) a) (drop (i + 1) b))

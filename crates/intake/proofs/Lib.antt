@@ -1,17 +1,15 @@
-pub mod Digit
-pub mod Adder
-pub mod Bit
-pub mod Count
-pub mod SpareBits
-pub mod Accepted
-pub mod OpenSound
+-- The map of the argument.
+--     RulesPassed   what is known where refusals 1 to 3, or 1 to 4, do not apply; a ladder's rest is its end or nothing
+--     OpenClears    an opening that is not refused, from what the calls of `open` give: by RulesPassed
+--     EqualBytes    two lists compared byte by byte, as the loop of `same_bytes` goes
+--     BlockBytes    a block's bytes in the image, and the image when a block is replaced
+--     Verdict       each verdict from its case, what a verdict tells, and the outcome of each: by RulesPassed
+--     NewAdds       what New adds, and that Same and refusals change nothing: by Verdict, BlockBytes and the bitmap's laws
+--     PastInUse     bytes past L and words past those in use are neither read nor written: by Verdict
+pub mod RulesPassed
+pub mod OpenClears
 pub mod EqualBytes
-pub mod Copying
-pub mod Delivering
-pub mod Image
-pub mod AfterDelivery
-pub mod ReceivedBlocks
-pub mod HoldsLaws
-pub mod Determined
-pub mod Runs
-pub mod PastCounted
+pub mod BlockBytes
+pub mod Verdict
+pub mod NewAdds
+pub mod PastInUse

@@ -1,16 +1,16 @@
--- What New means for image and map. Document 01, the intake: "A block not held is stored, its bit is set, and the answer is New."
+-- Rule 1.13: what New means for image and map.
 use mathlib.Core.Path.{_≡_}
 use mathlib.Core.Bool.{true}
-use mathlib.Core.List.{List}
+use Rattle.lists.specs.Alias.{Bytes}
 use Prim.Native.Nat.{ℕ, _+_, _/_}
 use lib.ListN.{length}
-use Rattle.field.specs.Size.{blockSize}
-use Rattle.field.specs.Number.{byteAt}
-use Rattle.intake.specs.Bit.{bit}
-use Rattle.intake.specs.Count.{heldCount}
+use Rattle.format.specs.Size.{blockSize}
+use Rattle.number.specs.Number.{byteAt}
+use Rattle.bitmap.specs.Bit.{bit}
+use Rattle.bitmap.specs.Count.{heldCount}
 use Rattle.intake.specs.Memory.{Memory, blockAt}
 
-pub record Added (len : ℕ) (m : Memory) (block : ℕ) (piece : List ℕ) (after : Memory) : Type 0 where
+pub record Added (len : ℕ) (m : Memory) (block : ℕ) (piece : Bytes) (after : Memory) : Type 0 where
   pub bitSet : bit (after .map) block ≡ true
   pub otherBits : (b : ℕ) → (b ≡ block → ⊥) → bit (after .map) b ≡ bit (m .map) b
   pub oneMore : heldCount len (after .map) ≡ heldCount len (m .map) + 1

@@ -1,34 +1,34 @@
--- Document 01, Refusal numbers: refusals 1 to 4. "Order: 1, 2, 3, 4; .. The first rule that applies answers."
-use mathlib.Core.Bool.{cond, not}
-use mathlib.Core.List.{List}
-use mathlib.Core.Option.{Option, none, some}
+-- Rules 2.1 to 2.4, with which a call begins; `rest` is what answers where none of them does.
+use mathlib.Core.Bool.{not}
 use Prim.Native.Nat.{ℕ}
 use lib.ListN.{length}
 use lib.Dec.{ltb}
-use Rattle.field.specs.Fault.{Fault, fault, faultOf}
-use Rattle.intake.specs.Length.{allowedLength, countedOf}
-use Rattle.intake.specs.Spare.{spareBit}
+use Rattle.lists.specs.Alias.{Bytes, Words}
+use Rattle.refusal.specs.Answer.{Answer, given, refused, refuseIf}
+use Rattle.refusal.specs.Fault.{fault, faultOf}
+use Rattle.bitmap.specs.Words.{wordCount}
+use Rattle.bitmap.specs.Spare.{spareBit}
+use Rattle.intake.specs.Length.{allowedLength}
+use Rattle.intake.specs.Memory.{Memory}
 use Rattle.intake.specs.declared.Checked.{Checked}
 use Rattle.intake.specs.declared.Checked.the-variants.{Sound, Refused}
 
--- the fault, or none, for each case of the code's enum
-abbrev pub checkedAs : Checked → Option Fault
-checkedAs Sound = none
-checkedAs (Refused refusal) = some (faultOf refusal)
+-- Rule 2.26: 1, 2, 3
+unfoldable pub checkLengths : {A : Type 0} (len : ℕ) (image : Bytes) (map : Words) (rest : Answer A) → Answer A
+checkLengths len image map rest =
+    refuseIf (not (allowedLength len)) (fault 1 0)
+    (refuseIf (ltb (length image) len) (fault 2 0)
+    (refuseIf (ltb (length map) (wordCount len)) (fault 3 0)
+    rest))
 
--- the first rule, or else the later ones
-abbrev pub orElse : Option Fault → Option Fault → Option Fault
-orElse (some f) later = some f
-orElse none later = later
+-- Rules 2.25, 2.27 and 2.28: 1, 2, 3, 4, before every call but the opening
+unfoldable pub checkCall : {A : Type 0} (len : ℕ) (m : Memory) (rest : Answer A) → Answer A
+checkCall len m rest =
+    checkLengths len (m .image) (m .map)
+    (refuseIf (spareBit len (m .map)) (fault 4 0)
+    rest)
 
--- "1 L is not allowed", "2 image shorter than L", "3 map too short"
-unfoldable pub openFault : ℕ → List ℕ → List ℕ → Option Fault
-openFault len image map =
-    cond (not (allowedLength len)) (some (fault 1 0))
-    (cond (ltb (length image) len) (some (fault 2 0))
-    (cond (ltb (length map) (countedOf len)) (some (fault 3 0))
-    none))
-
--- "4 a bit at B or above is set in a counted word (not tested at opening)"
-unfoldable pub callFault : ℕ → List ℕ → List ℕ → Option Fault
-callFault len image map = orElse (openFault len image map) (cond (spareBit len map) (some (fault 4 0)) none)
+-- the answer for each case of the code's enum
+abbrev pub checkedOf : Checked → Answer Unit
+checkedOf Sound = given tt
+checkedOf (Refused refusal) = refused (faultOf refusal)

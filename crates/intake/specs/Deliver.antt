@@ -1,64 +1,73 @@
--- Document 01, the intake: delivery. "A delivery names a block and brings 512 bytes."
-use mathlib.Core.Bool.{cond, not, _&&_}
-use mathlib.Core.List.{List}
-use mathlib.Core.Option.{Option, none, some}
+-- Rules 1.12 to 1.16: delivery. The verdict comes first, then what it does to image and map, then the held count.
+use mathlib.Core.Bool.{cond, not}
 use Prim.Native.Nat.{ℕ}
 use lib.ListN.{length}
 use lib.Dec.{eqb, leb}
-use Rattle.field.specs.Size.{blockSize}
-use Rattle.field.specs.Fault.{Fault, fault, faultOf}
-use Rattle.intake.specs.Length.{blocksOf}
-use Rattle.intake.specs.Bit.{bit, withBit}
-use Rattle.intake.specs.Count.{heldCount}
-use Rattle.intake.specs.Check.{orElse, callFault}
+use Rattle.lists.specs.Alias.{Bytes, Words}
+use Rattle.format.specs.Size.{blockSize}
+use Rattle.refusal.specs.Answer.{Answer, given, refused, refuseIf, andThen}
+use Rattle.refusal.specs.Fault.{fault, faultOf}
+use Rattle.bitmap.specs.Words.{blockCount}
+use Rattle.bitmap.specs.Bit.{bit, withBit}
+use Rattle.bitmap.specs.Count.{heldCount}
 use Rattle.intake.specs.Memory.{Memory, memory, blockAt, withBlock}
+use Rattle.intake.specs.Check.{checkCall}
 use Rattle.intake.specs.Equal.{equal}
 use Rattle.intake.specs.declared.Delivered.{Delivered}
 use Rattle.intake.specs.declared.Delivered.the-variants.{New, Same, Refused}
 
--- a delivery's answer: "Both good answers carry the held count after the call"
-pub data DeliverAnswer : Type 0 where
-  new : ℕ → DeliverAnswer
-  same : ℕ → DeliverAnswer
-  refused : Fault → DeliverAnswer
+-- a block that is not held, and one that is held with the piece's bytes
+pub data Verdict : Type 0 where
+  new : Verdict
+  same : Verdict
+
+-- Rule 2.27: 1 to 4, then 5, 6 and 7
+unfoldable pub verdict : (len : ℕ) (m : Memory) (block : ℕ) (piece : Bytes) → Answer Verdict
+verdict len m block piece =
+    checkCall len m
+    (refuseIf (leb (blockCount len) block) (fault 5 0)
+    (refuseIf (not (eqb (length piece) blockSize)) (fault 6 0)
+    (cond (not (bit (m .map) block)) (given new)
+    (refuseIf (not (equal (blockAt (m .image) block) piece)) (fault 7 0)
+    (given same)))))
+
+-- Rule 1.13: the piece in its place, and its bit set
+unfoldable pub stored : (m : Memory) (block : ℕ) (piece : Bytes) → Memory
+stored m block piece = memory (withBlock (m .image) block piece) (withBit (m .map) block)
+
+-- what a verdict does to image and map: New stores, Same and a refusal change nothing (rules 1.14, 1.15 and 2.22)
+abbrev pub afterVerdict : (m : Memory) (block : ℕ) (piece : Bytes) (v : Answer Verdict) → Memory
+afterVerdict m block piece (given new) = stored m block piece
+afterVerdict m block piece (given same) = m
+afterVerdict m block piece (refused f) = m
+
+-- Rule 1.16: a good answer carries the held count after the call
+pub data Taken : Type 0 where
+  taken : (v : Verdict) (count : ℕ) → Taken
+
+abbrev pub withCount : (len : ℕ) (after : Memory) (v : Answer Verdict) → Answer Taken
+withCount len after v = andThen v (λ (x : Verdict). given (taken x (heldCount len (after .map))))
 
 -- the answer for each case of the code's enum
-abbrev pub deliveredAs : Delivered → DeliverAnswer
-deliveredAs (New count) = new count
-deliveredAs (Same count) = same count
-deliveredAs (Refused refusal) = refused (faultOf refusal)
+abbrev pub deliveredOf : Delivered → Answer Taken
+deliveredOf (New count) = given (taken new count)
+deliveredOf (Same count) = given (taken same count)
+deliveredOf (Refused refusal) = refused (faultOf refusal)
 
 -- the answer, and both buffers afterwards
 pub record Outcome : Type 0 where
-  pub answer : DeliverAnswer
+  pub answer : Answer Taken
   pub memory : Memory
 
-abbrev pub outcome : DeliverAnswer → Memory → Outcome
+abbrev pub outcome : Answer Taken → Memory → Outcome
 outcome answer m = record { answer = answer; memory = m }
 
-abbrev pub outcomeOf : Delivered → List ℕ → List ℕ → Outcome
-outcomeOf r image map = outcome (deliveredAs r) (memory image map)
+abbrev pub outcomeOf : (r : Delivered) (image : Bytes) (map : Words) → Outcome
+outcomeOf r image map = outcome (deliveredOf r) (memory image map)
 
--- after 1 to 4: "5 block number is B or more", "6 the piece is not 512 bytes", "7 held block, different bytes"
-unfoldable pub deliverFault : ℕ → Memory → ℕ → List ℕ → Option Fault
-deliverFault len m block piece =
-    orElse (callFault len (m .image) (m .map))
-    (cond (leb (blocksOf len) block) (some (fault 5 0))
-    (cond (not (eqb (length piece) blockSize)) (some (fault 6 0))
-    (cond (bit (m .map) block && not (equal (blockAt (m .image) block) piece)) (some (fault 7 0))
-    none)))
+-- what a delivery with a given verdict answers and leaves
+abbrev pub settled : (len : ℕ) (m : Memory) (block : ℕ) (piece : Bytes) (v : Answer Verdict) → Outcome
+settled len m block piece v = outcome (withCount len (afterVerdict m block piece v) v) (afterVerdict m block piece v)
 
--- "A block not held is stored, its bit is set, and the answer is New."
-unfoldable pub stored : Memory → ℕ → List ℕ → Memory
-stored m block piece = memory (withBlock (m .image) block piece) (withBit (m .map) block)
-
--- "All refusals leave image, map, .. untouched." "A held block with equal bytes gives Same; nothing changes."
-abbrev pub settleDelivery : Option Fault → ℕ → Memory → ℕ → List ℕ → Outcome
-settleDelivery (some f) len m block piece = outcome (refused f) m
-settleDelivery none len m block piece =
-    cond (bit (m .map) block)
-    (outcome (same (heldCount len (m .map))) m)
-    (outcome (new (heldCount len (stored m block piece .map))) (stored m block piece))
-
-unfoldable pub delivery : ℕ → Memory → ℕ → List ℕ → Outcome
-delivery len m block piece = settleDelivery (deliverFault len m block piece) len m block piece
+unfoldable pub delivery : (len : ℕ) (m : Memory) (block : ℕ) (piece : Bytes) → Outcome
+delivery len m block piece = settled len m block piece (verdict len m block piece)

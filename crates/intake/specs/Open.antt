@@ -1,42 +1,43 @@
--- Document 01, the intake: opening.
--- "Opening takes a file length L, .. and returns a small record that every later call takes with the same two buffers."
-use mathlib.Core.List.{List, _++_}
-use mathlib.Core.Option.{Option, none, some}
+-- Rule 1.11: opening, refused as rule 2.26 says.
+use mathlib.Core.List.{_++_}
 use Prim.Native.Nat.{ℕ}
 use lib.ListN.{drop, replicate}
-use Rattle.field.specs.Fault.{Fault, faultOf}
-use Rattle.intake.specs.Length.{blocksOf, countedOf}
-use Rattle.intake.specs.Check.{openFault}
-use Rattle.intake.specs.declared.Intake.{Intake}
+use Rattle.lists.specs.Alias.{Bytes, Words}
+use Rattle.refusal.specs.Answer.{Answer, given, refused}
+use Rattle.refusal.specs.Fault.{faultOf}
+use Rattle.bitmap.specs.Words.{blockCount, wordCount}
+use Rattle.intake.specs.Check.{checkLengths}
 use Rattle.intake.specs.declared.Opened.{Opened}
 use Rattle.intake.specs.declared.Opened.the-variants.{Open, Refused}
 
--- an opening's answer: the length in the record and the number of blocks, or the fault
-pub data OpenAnswer : Type 0 where
-  opened : ℕ → ℕ → OpenAnswer
-  refused : Fault → OpenAnswer
-
--- the answer for each case of the code's enum
-abbrev pub openedAs : Opened → OpenAnswer
-openedAs (Open intake blocks) = opened (intake .len) blocks
-openedAs (Refused refusal) = refused (faultOf refusal)
+-- the length that the record holds, and the number of blocks
+pub data OpenedFile : Type 0 where
+  opened : (len blocks : ℕ) → OpenedFile
 
 -- the answer, and the map afterwards
 pub record Opening : Type 0 where
-  pub answer : OpenAnswer
-  pub map : List ℕ
+  pub answer : Answer OpenedFile
+  pub map : Words
 
-abbrev pub openingOf : Opened → List ℕ → Opening
-openingOf r map = record { answer = openedAs r; map = map }
+-- the answer for each case of the code's enum
+abbrev pub openedOf : Opened → Answer OpenedFile
+openedOf (Open intake blocks) = given (opened (intake .len) blocks)
+openedOf (Refused refusal) = refused (faultOf refusal)
 
--- "Opening clears the counted words and leaves the image."
-unfoldable pub cleared : ℕ → List ℕ → List ℕ
-cleared len map = replicate (countedOf len) 0 ++ drop (countedOf len) map
+abbrev pub openingOf : Opened → Words → Opening
+openingOf r map = record { answer = openedOf r; map = map }
 
--- a refused opening leaves the map
-abbrev pub settleOpening : Option Fault → ℕ → List ℕ → Opening
-settleOpening (some f) len map = record { answer = refused f; map = map }
-settleOpening none len map = record { answer = opened len (blocksOf len); map = cleared len map }
+-- the map with its words in use set to 0
+unfoldable pub cleared : ℕ → Words → Words
+cleared len map = replicate (wordCount len) 0 ++ drop (wordCount len) map
 
-unfoldable pub opening : ℕ → List ℕ → List ℕ → Opening
-opening len image map = settleOpening (openFault len image map) len map
+-- what an answer does to the map: nothing where it is a refusal (rule 2.22)
+abbrev pub openMap : (len : ℕ) (map : Words) (answer : Answer OpenedFile) → Words
+openMap len map (given file) = cleared len map
+openMap len map (refused f) = map
+
+abbrev pub openAnswer : (len : ℕ) (image : Bytes) (map : Words) → Answer OpenedFile
+openAnswer len image map = checkLengths len image map (given (opened len (blockCount len)))
+
+unfoldable pub opening : (len : ℕ) (image : Bytes) (map : Words) → Opening
+opening len image map = record { answer = openAnswer len image map; map = openMap len map (openAnswer len image map) }

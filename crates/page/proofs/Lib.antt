@@ -1,7 +1,12 @@
-pub mod Index
-pub mod Entries
-pub mod Places
-pub mod Finding
-pub mod Cases
-pub mod Laws
-pub mod Agree
+-- `row_index` reads the header once for all that use the index (RowStarts), and EntriesInside takes the entries one at a time.
+-- `read` tests what the rungs of `readPage` test (ReadRungs), and its loop checks the rows (ReadLoop).
+-- `fill` and `row` go through the same entries (FillLoop, RowLoop).
+-- PageAnswer: what an answer says of the page. PageAgree: the answer depends on the relevant bytes alone.
+pub mod EntriesInside
+pub mod RowStarts
+pub mod ReadRungs
+pub mod ReadLoop
+pub mod FillLoop
+pub mod RowLoop
+pub mod PageAnswer
+pub mod PageAgree

@@ -1,36 +1,37 @@
--- Document 01, Row index: "Built backwards from the page's end in groups of up to 16."
+-- Rules 5.1 to 5.7: the row index, from the page's end backwards in groups of 16 entries.
 use mathlib.Core.Bool.{Bool, cond}
-use mathlib.Core.List.{List, [], _∷_}
+use mathlib.Core.List.{[], _∷_}
 use Prim.Native.Nat.{ℕ, zero, suc, _+_, _-_, _*_, _/_, _%_, _^_}
 use lib.ListN.{length}
 use lib.Dec.{eqb}
-use Rattle.field.specs.Number.{le16}
-use Rattle.field.specs.Size.{heapStart, groupSize}
+use Rattle.lists.specs.Alias.{Bytes, Places}
+use Rattle.number.specs.Number.{le16}
+use Rattle.format.specs.Size.{heapStart, groupSize}
 
--- "The index takes 36 for each full group and 4 + 2r for a rest of r > 0."
+-- Rule 5.3: whole groups, and four bytes and two for each entry of a rest.
 abbrev pub restSize : ℕ → ℕ
 restSize r = cond (eqb r 0) 0 (4 + 2 * r)
 
 unfoldable pub indexSize : ℕ → ℕ
 indexSize n = groupSize * (n / 16) + restSize (n % 16)
 
--- "A group ends with two pad bytes; before them two bytes of presence flags": the flags of entry i's group
-unfoldable pub flagsAt : List ℕ → ℕ → ℕ
+-- Rule 5.2: where the presence flags of entry i's group stand, and where its offset does.
+unfoldable pub flagsAt : (page : Bytes) (i : ℕ) → ℕ
 flagsAt page i = length page - groupSize * (i / 16) - 4
 
--- "before those the two-byte offsets, entry 0 nearest the flags"
-unfoldable pub offsetAt : List ℕ → ℕ → ℕ
+unfoldable pub offsetAt : (page : Bytes) (i : ℕ) → ℕ
 offsetAt page i = flagsAt page i - 2 - 2 * (i % 16)
 
--- the entry's flag, "low bit first"
-unfoldable pub present : List ℕ → ℕ → Bool
+-- Rule 5.5.
+unfoldable pub present : (page : Bytes) (i : ℕ) → Bool
 present page i = eqb (le16 page (flagsAt page i) / 2 ^ (i % 16) % 2) 1
 
--- "A present row starts at `28` + its offset."
-unfoldable pub rowStart : List ℕ → ℕ → ℕ
+-- Rule 5.6.
+unfoldable pub rowStart : (page : Bytes) (i : ℕ) → ℕ
 rowStart page i = heapStart + le16 page (offsetAt page i)
 
--- the starts of the present rows among the k entries from i on, in index order; absent rows are skipped unread
-unfoldable pub presentFrom : List ℕ → ℕ → ℕ → List ℕ
+-- Rule 5.7: the starts of the present rows among so many entries from i on, in the order of the index.
+unfoldable pub presentFrom : (page : Bytes) (left i : ℕ) → Places
 presentFrom page zero i = []
-presentFrom page (suc k) i = cond (present page i) (rowStart page i ∷ presentFrom page k (i + 1)) (presentFrom page k (i + 1))
+presentFrom page (suc left) i =
+    cond (present page i) (rowStart page i ∷ presentFrom page left (i + 1)) (presentFrom page left (i + 1))

@@ -3,3 +3,4 @@ pub mod Index
 pub mod Read
 pub mod Row
 pub mod Bytes
+pub mod Private

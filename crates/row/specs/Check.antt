@@ -1,38 +1,35 @@
--- Document 01, Row index: "Its fixed part must end at or before the index (14); then each of its strings, slot by slot, is checked (15)."
-use mathlib.Core.Bool.{Bool, true, false, cond}
-use mathlib.Core.List.{List}
-use Prim.Native.Nat.{ℕ}
+-- Rules 5.8, 5.9, 5.12: the check of a row, which is its own part of the page (specs/Layout).
+-- The page, which 14 and 15 carry, is not known here; reading a page sets it (page/Read `onPage`).
+use Prim.Native.Nat.{ℕ, zero, suc, _+_}
 use lib.ListN.{length}
 use lib.Dec.{ltb}
-use Rattle.field.specs.Any.{anyFrom}
-use Rattle.text.specs.declared.Text.{Text}
-use Rattle.text.specs.declared.Text.the-variants.{At, Malformed}
+use Rattle.lists.specs.Alias.{Bytes}
+use Rattle.refusal.specs.Fault.{fault}
+use Rattle.refusal.specs.Answer.{Answer, given, refused, refuseIf, andThen}
 use Rattle.text.specs.Text.{readText}
-use Rattle.row.specs.declared.Table.{Table}
+use Rattle.table.specs.declared.Table.{Table}
 use Rattle.row.specs.declared.Slots.{Slots}
 use Rattle.row.specs.declared.Layout.{Layout}
 use Rattle.row.specs.declared.Layout.the-variants.{Known, Unknown}
 use Rattle.row.specs.declared.Check.{Check}
 use Rattle.row.specs.declared.Check.the-variants.{Good, RowFault, TextFault}
-use Rattle.row.specs.Layout.{layoutOf, slotsIn, slotStart}
+use Rattle.row.specs.Layout.{rowLayout, slotsIn, slotStart}
 
-abbrev pub malformed : Text → Bool
-malformed (At place len encoding) = false
-malformed Malformed = true
+-- Rule 5.9: the strings of so many slots, one after the other from this slot on.
+unfoldable pub checkTexts : (row : Bytes) (slots : Slots) (left slot : ℕ) → Answer (Unit {0})
+checkTexts row slots zero slot = given tt
+checkTexts row slots (suc left) slot = andThen (readText row (slotStart slots row slot)) (λ _. checkTexts row slots left (slot + 1))
 
--- is true exactly when a slot holds a malformed string
-unfoldable pub badText : List ℕ → Slots → Bool
-badText row slots = anyFrom (λ (slot : ℕ). malformed (readText row (slotStart slots row slot))) (slotsIn slots) 0
+-- Rule 5.8, then 5.9. An artist row of no known layout is 14 (rule 5.12).
+abbrev pub checkLayout : (row : Bytes) (layout : Layout) → Answer (Unit {0})
+checkLayout row (Known fixed slots) = refuseIf (ltb (length row) fixed) (fault 14 0) (checkTexts row slots (slotsIn slots) 0)
+checkLayout row Unknown = refused (fault 14 0)
 
-abbrev pub checkLayout : List ℕ → Layout → Check
-checkLayout row (Known fixed slots) = cond (ltb (length row) fixed) RowFault (cond (badText row slots) TextFault Good)
-checkLayout row Unknown = RowFault
+unfoldable pub checkRow : (table : Table) (row : Bytes) → Answer (Unit {0})
+checkRow table row = checkLayout row (rowLayout table row)
 
-unfoldable pub checkRow : Table → List ℕ → Check
-checkRow table row = checkLayout row (layoutOf table row)
-
--- document 01's number of each case, 0 where the row is good
-abbrev pub checkNumber : Check → ℕ
-checkNumber Good = 0
-checkNumber RowFault = 14
-checkNumber TextFault = 15
+-- the answer for each case of the code's enum
+abbrev pub checkOf : Check → Answer (Unit {0})
+checkOf Good = given tt
+checkOf RowFault = refused (fault 14 0)
+checkOf TextFault = refused (fault 15 0)

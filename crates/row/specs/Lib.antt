@@ -1,4 +1,3 @@
-pub mod Table
 pub mod Layout
 pub mod Check
 pub mod Record

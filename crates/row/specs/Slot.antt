@@ -1,24 +1,23 @@
--- Document 01, Questions: "string slot s of record k, answered by place, length in bytes and encoding". The place counts from the row's start.
-use mathlib.Core.Bool.{cond}
-use mathlib.Core.List.{List}
+-- Rules 5.22, 5.26: the string of a slot. Its place counts from the row's start.
 use Prim.Native.Nat.{ℕ}
-use lib.Dec.{ltb}
-use Rattle.text.specs.declared.Text.{Text}
-use Rattle.text.specs.declared.Text.the-variants.{Malformed}
-use Rattle.text.specs.Text.{readText}
-use Rattle.row.specs.declared.Table.{Table}
+use lib.Dec.{leb}
+use Rattle.lists.specs.Alias.{Bytes}
+use Rattle.refusal.specs.Fault.{fault}
+use Rattle.refusal.specs.Answer.{Answer, refused, refuseIf}
+use Rattle.text.specs.Text.{TextAt, readText}
+use Rattle.table.specs.declared.Table.{Table}
 use Rattle.row.specs.declared.Slots.{Slots}
 use Rattle.row.specs.declared.Layout.{Layout}
 use Rattle.row.specs.declared.Layout.the-variants.{Known, Unknown}
-use Rattle.row.specs.Layout.{layoutOf, slotsIn, slotStart}
+use Rattle.row.specs.Layout.{rowLayout, slotsIn, slotStart}
 
--- a slot that the row does not have holds no string
-abbrev pub textIn : List ℕ → Slots → ℕ → Text
-textIn row slots slot = cond (ltb slot (slotsIn slots)) (readText row (slotStart slots row slot)) Malformed
+-- Rule 5.26: a slot that the row does not have holds no string.
+abbrev pub textInSlot : (row : Bytes) (slots : Slots) (slot : ℕ) → Answer TextAt
+textInSlot row slots slot = refuseIf (leb (slotsIn slots) slot) (fault 15 0) (readText row (slotStart slots row slot))
 
-abbrev pub layoutText : List ℕ → ℕ → Layout → Text
-layoutText row slot (Known fixed slots) = textIn row slots slot
-layoutText row slot Unknown = Malformed
+abbrev pub layoutText : (row : Bytes) (slot : ℕ) (layout : Layout) → Answer TextAt
+layoutText row slot (Known fixed slots) = textInSlot row slots slot
+layoutText row slot Unknown = refused (fault 15 0)
 
-unfoldable pub slotText : Table → List ℕ → ℕ → Text
-slotText table row slot = layoutText row slot (layoutOf table row)
+unfoldable pub slotText : (table : Table) (row : Bytes) (slot : ℕ) → Answer TextAt
+slotText table row slot = layoutText row slot (rowLayout table row)

@@ -1,35 +1,15 @@
-// Table types, the layout of their rows, a row's check, its record and its strings.
+// Rows: their layout by table, a row's check, its record and its strings.
 // A row is its own part of the page: from the row's start to where the row index begins.
 ghost use mathlib.Core.Path.{_≡_};
 ghost use Prim.Native.Nat.{_+_, _*_};
-ghost use Rattle.field.specs.Number.{le16};
-ghost use Rattle.row.specs.Table.{tableNumber, tableOf, askedOf};
-ghost use Rattle.row.specs.Layout.{layoutOf, artistLayout, slotCount, slotsIn, slotStart};
-ghost use Rattle.row.specs.Check.{badText, checkRow};
-ghost use Rattle.row.specs.Record.{trackOf, recordOf};
-ghost use Rattle.row.specs.Slot.{textIn, slotText};
-use field::Refusal;
+ghost use Rattle.number.specs.Number.{le16};
+ghost use Rattle.text.specs.Text.{textOf};
+ghost use Rattle.row.specs.Layout.{rowLayout, artistLayout, slotsIn, slotStart};
+ghost use Rattle.row.specs.Check.{checkTexts, checkRow, checkOf};
+ghost use Rattle.row.specs.Record.{trackNumbers, readRecord, trackOf, recordOf};
+ghost use Rattle.row.specs.Slot.{textInSlot, slotText};
+use table::Table;
 use text::Text;
-
-// The ten tables of document 01.
-pub enum Table {
-    Tracks,
-    Genres,
-    Artists,
-    Albums,
-    Labels,
-    Keys,
-    Colors,
-    PlaylistTree,
-    PlaylistEntries,
-    Artwork,
-}
-
-// What a table type's number names.
-pub enum Asked {
-    Known(Table),
-    Refused(Refusal),
-}
 
 // Where the offsets of a row's strings stand.
 pub enum Slots {
@@ -42,7 +22,7 @@ pub enum Slots {
     WordOffsets(u8, u8),
 }
 
-// A row's fixed part in bytes and its strings; unknown for an artist row of no known subtype.
+// A row's fixed part in bytes and its strings; unknown for an artist row of fewer than 0a bytes or of no known subtype.
 pub enum Layout {
     Known(usize, Slots),
     Unknown,
@@ -124,7 +104,7 @@ pub enum Record {
 fn word_start(row: &[u8], at: u8, slot: u8) -> usize
     ensures { λ r. ⌜ r ≡ le16 (now (row .entry)) (at + 2 * slot) ⌝ }
 {
-    field::u16_at(row, (at as usize) + 2 * (slot as usize)) as usize
+    number::u16_at(row, (at as usize) + 2 * (slot as usize)) as usize
 }
 
 impl Slots {
@@ -146,7 +126,7 @@ impl Slots {
         match self {
             Slots::Nothing => 0,
             Slots::Inline(at) => at as usize,
-            Slots::ByteOffset(at) => field::byte_at(row, at as usize) as usize,
+            Slots::ByteOffset(at) => number::byte_at(row, at as usize) as usize,
             Slots::WordOffsets(_, at) => word_start(row, at, slot),
         }
     }
@@ -158,7 +138,7 @@ fn artist_layout(row: &[u8]) -> Layout
     if row.len() < 0x0a {
         return Layout::Unknown;
     }
-    let subtype = field::u16_at(row, 0x00);
+    let subtype = number::u16_at(row, 0x00);
     match subtype {
         0x0060 => Layout::Known(0x0a, Slots::ByteOffset(0x09)),
         0x0064 => Layout::Known(0x0c, Slots::WordOffsets(1, 0x0a)),
@@ -166,24 +146,24 @@ fn artist_layout(row: &[u8]) -> Layout
     }
 }
 
-// Whether a slot of a row holds a malformed string.
-fn has_bad_text(row: &[u8], slots: Slots) -> bool
-    ensures { λ r. ⌜ r ≡ badText (now (row .entry)) slots ⌝ }
+// Whether the strings of a row are well-formed.
+fn check_texts(row: &[u8], slots: Slots) -> Check
+    ensures { λ r. ⌜ checkOf r ≡ checkTexts (now (row .entry)) slots (slotsIn slots) 0 ⌝ }
 {
     let count = slots.count();
     let mut slot: u8 = 0;
     while slot < count {
         let found = text::read(row, slots.start(row, slot));
         if let Text::Malformed = found {
-            return true;
+            return Check::TextFault;
         }
         slot += 1;
     }
-    false
+    Check::Good
 }
 
-fn text_of(row: &[u8], slots: Slots, slot: usize) -> Text
-    ensures { λ r. ⌜ r ≡ textIn (now (row .entry)) slots slot ⌝ }
+fn text_in_slot(row: &[u8], slots: Slots, slot: usize) -> Text
+    ensures { λ r. ⌜ textOf r ≡ textInSlot (now (row .entry)) slots slot ⌝ }
 {
     let count = slots.count() as usize;
     if slot < count {
@@ -194,194 +174,134 @@ fn text_of(row: &[u8], slots: Slots, slot: usize) -> Text
 }
 
 fn track_record(row: &[u8]) -> Track
-    ensures { λ r. ⌜ r ≡ trackOf (now (row .entry)) ⌝ }
+    ensures { λ r. ⌜ trackOf r ≡ trackNumbers (now (row .entry)) ⌝ }
 {
     Track {
-        sample_rate: field::u32_at(row, 0x08),
-        composer_id: field::u32_at(row, 0x0c),
-        file_size: field::u32_at(row, 0x10),
-        artwork_id: field::u32_at(row, 0x1c),
-        key_id: field::u32_at(row, 0x20),
-        original_artist_id: field::u32_at(row, 0x24),
-        label_id: field::u32_at(row, 0x28),
-        remixer_id: field::u32_at(row, 0x2c),
-        bitrate: field::u32_at(row, 0x30),
-        track_number: field::u32_at(row, 0x34),
-        tempo: field::u32_at(row, 0x38),
-        genre_id: field::u32_at(row, 0x3c),
-        album_id: field::u32_at(row, 0x40),
-        artist_id: field::u32_at(row, 0x44),
-        id: field::u32_at(row, 0x48),
-        disc_number: field::u16_at(row, 0x4c),
-        play_count: field::u16_at(row, 0x4e),
-        year: field::u16_at(row, 0x50),
-        sample_depth: field::u16_at(row, 0x52),
-        duration: field::u16_at(row, 0x54),
-        color_id: field::byte_at(row, 0x58),
-        rating: field::byte_at(row, 0x59),
+        sample_rate: number::u32_at(row, 0x08),
+        composer_id: number::u32_at(row, 0x0c),
+        file_size: number::u32_at(row, 0x10),
+        artwork_id: number::u32_at(row, 0x1c),
+        key_id: number::u32_at(row, 0x20),
+        original_artist_id: number::u32_at(row, 0x24),
+        label_id: number::u32_at(row, 0x28),
+        remixer_id: number::u32_at(row, 0x2c),
+        bitrate: number::u32_at(row, 0x30),
+        track_number: number::u32_at(row, 0x34),
+        tempo: number::u32_at(row, 0x38),
+        genre_id: number::u32_at(row, 0x3c),
+        album_id: number::u32_at(row, 0x40),
+        artist_id: number::u32_at(row, 0x44),
+        id: number::u32_at(row, 0x48),
+        disc_number: number::u16_at(row, 0x4c),
+        play_count: number::u16_at(row, 0x4e),
+        year: number::u16_at(row, 0x50),
+        sample_depth: number::u16_at(row, 0x52),
+        duration: number::u16_at(row, 0x54),
+        color_id: number::byte_at(row, 0x58),
+        rating: number::byte_at(row, 0x59),
     }
 }
 
 fn album_record(row: &[u8]) -> Record
-    ensures { λ r. ⌜ r ≡ recordOf Table.Albums (now (row .entry)) ⌝ }
+    ensures { λ r. ⌜ recordOf r ≡ readRecord Table.Albums (now (row .entry)) ⌝ }
 {
     Record::Album {
-        artist_id: field::u32_at(row, 0x08),
-        id: field::u32_at(row, 0x0c),
+        artist_id: number::u32_at(row, 0x08),
+        id: number::u32_at(row, 0x0c),
     }
 }
 
 fn node_record(row: &[u8]) -> Record
-    ensures { λ r. ⌜ r ≡ recordOf Table.PlaylistTree (now (row .entry)) ⌝ }
+    ensures { λ r. ⌜ recordOf r ≡ readRecord Table.PlaylistTree (now (row .entry)) ⌝ }
 {
     Record::PlaylistNode {
-        parent_id: field::u32_at(row, 0x00),
-        sort_order: field::u32_at(row, 0x08),
-        id: field::u32_at(row, 0x0c),
-        raw_is_folder: field::u32_at(row, 0x10),
+        parent_id: number::u32_at(row, 0x00),
+        sort_order: number::u32_at(row, 0x08),
+        id: number::u32_at(row, 0x0c),
+        raw_is_folder: number::u32_at(row, 0x10),
     }
 }
 
 fn entry_record(row: &[u8]) -> Record
-    ensures { λ r. ⌜ r ≡ recordOf Table.PlaylistEntries (now (row .entry)) ⌝ }
+    ensures { λ r. ⌜ recordOf r ≡ readRecord Table.PlaylistEntries (now (row .entry)) ⌝ }
 {
     Record::PlaylistEntry {
-        entry_index: field::u32_at(row, 0x00),
-        track_id: field::u32_at(row, 0x04),
-        playlist_id: field::u32_at(row, 0x08),
+        entry_index: number::u32_at(row, 0x00),
+        track_id: number::u32_at(row, 0x04),
+        playlist_id: number::u32_at(row, 0x08),
     }
 }
 
-impl Table {
-    // The table of a type's number.
-    pub fn new(number: u32) -> Asked
-        ensures { λ r. ⌜ askedOf r ≡ tableOf number ⌝ }
-    {
-        match number {
-            0 => Asked::Known(Table::Tracks),
-            1 => Asked::Known(Table::Genres),
-            2 => Asked::Known(Table::Artists),
-            3 => Asked::Known(Table::Albums),
-            4 => Asked::Known(Table::Labels),
-            5 => Asked::Known(Table::Keys),
-            6 => Asked::Known(Table::Colors),
-            7 => Asked::Known(Table::PlaylistTree),
-            8 => Asked::Known(Table::PlaylistEntries),
-            13 => Asked::Known(Table::Artwork),
-            _ => Asked::Refused(Refusal::TableType),
-        }
+fn row_layout(table: Table, row: &[u8]) -> Layout
+    ensures { λ r. ⌜ r ≡ rowLayout table (now (row .entry)) ⌝ }
+{
+    match table {
+        Table::Tracks => Layout::Known(0x88, Slots::WordOffsets(21, 0x5e)),
+        Table::Genres => Layout::Known(0x04, Slots::Inline(0x04)),
+        Table::Artists => artist_layout(row),
+        Table::Albums => Layout::Known(0x16, Slots::ByteOffset(0x15)),
+        Table::Labels => Layout::Known(0x04, Slots::Inline(0x04)),
+        Table::Keys => Layout::Known(0x08, Slots::Inline(0x08)),
+        Table::Colors => Layout::Known(0x08, Slots::Inline(0x08)),
+        Table::PlaylistTree => Layout::Known(0x14, Slots::Inline(0x14)),
+        Table::PlaylistEntries => Layout::Known(0x0c, Slots::Nothing),
+        Table::Artwork => Layout::Known(0x04, Slots::Inline(0x04)),
     }
+}
 
-    pub fn number(self) -> u32
-        ensures { λ r. ⌜ r ≡ tableNumber self ⌝ }
-    {
-        match self {
-            Table::Tracks => 0,
-            Table::Genres => 1,
-            Table::Artists => 2,
-            Table::Albums => 3,
-            Table::Labels => 4,
-            Table::Keys => 5,
-            Table::Colors => 6,
-            Table::PlaylistTree => 7,
-            Table::PlaylistEntries => 8,
-            Table::Artwork => 13,
-        }
-    }
-
-    // How many string slots the table's rows have.
-    pub fn slots(self) -> usize
-        ensures { λ r. ⌜ r ≡ slotCount self ⌝ }
-    {
-        match self {
-            Table::Tracks => 21,
-            Table::Genres => 1,
-            Table::Artists => 1,
-            Table::Albums => 1,
-            Table::Labels => 1,
-            Table::Keys => 1,
-            Table::Colors => 1,
-            Table::PlaylistTree => 1,
-            Table::PlaylistEntries => 0,
-            Table::Artwork => 1,
-        }
-    }
-
-    fn layout(self, row: &[u8]) -> Layout
-        ensures { λ r. ⌜ r ≡ layoutOf self (now (row .entry)) ⌝ }
-    {
-        match self {
-            Table::Tracks => Layout::Known(0x88, Slots::WordOffsets(21, 0x5e)),
-            Table::Genres => Layout::Known(0x04, Slots::Inline(0x04)),
-            Table::Artists => artist_layout(row),
-            Table::Albums => Layout::Known(0x16, Slots::ByteOffset(0x15)),
-            Table::Labels => Layout::Known(0x04, Slots::Inline(0x04)),
-            Table::Keys => Layout::Known(0x08, Slots::Inline(0x08)),
-            Table::Colors => Layout::Known(0x08, Slots::Inline(0x08)),
-            Table::PlaylistTree => Layout::Known(0x14, Slots::Inline(0x14)),
-            Table::PlaylistEntries => Layout::Known(0x0c, Slots::Nothing),
-            Table::Artwork => Layout::Known(0x04, Slots::Inline(0x04)),
-        }
-    }
-
-    // Whether a row's fixed part fits and its strings are well-formed.
-    pub fn check(self, row: &[u8]) -> Check
-        ensures { λ r. ⌜ r ≡ checkRow self (now (row .entry)) ⌝ }
-    {
-        let layout = self.layout(row);
-        match layout {
-            Layout::Known(fixed, slots) => {
-                if row.len() < fixed {
-                    return Check::RowFault;
-                }
-                if has_bad_text(row, slots) {
-                    Check::TextFault
-                } else {
-                    Check::Good
-                }
+// Whether a row's fixed part fits and its strings are well-formed.
+pub fn check_row(table: Table, row: &[u8]) -> Check
+    ensures { λ r. ⌜ checkOf r ≡ checkRow table (now (row .entry)) ⌝ }
+{
+    let layout = row_layout(table, row);
+    match layout {
+        Layout::Known(fixed, slots) => {
+            if row.len() < fixed {
+                return Check::RowFault;
             }
-            Layout::Unknown => Check::RowFault,
+            check_texts(row, slots)
         }
+        Layout::Unknown => Check::RowFault,
     }
+}
 
-    // The string of a slot, its place counted from the row's start.
-    pub fn text(self, row: &[u8], slot: usize) -> Text
-        ensures { λ r. ⌜ r ≡ slotText self (now (row .entry)) slot ⌝ }
-    {
-        let layout = self.layout(row);
-        match layout {
-            Layout::Known(_, slots) => text_of(row, slots, slot),
-            Layout::Unknown => Text::Malformed,
-        }
+// The string of a slot, its place counted from the row's start.
+pub fn slot_text(table: Table, row: &[u8], slot: usize) -> Text
+    ensures { λ r. ⌜ textOf r ≡ slotText table (now (row .entry)) slot ⌝ }
+{
+    let layout = row_layout(table, row);
+    match layout {
+        Layout::Known(_, slots) => text_in_slot(row, slots, slot),
+        Layout::Unknown => Text::Malformed,
     }
+}
 
-    // A row's numbers; bytes that the row does not have count as 0.
-    pub fn record(self, row: &[u8]) -> Record
-        ensures { λ r. ⌜ r ≡ recordOf self (now (row .entry)) ⌝ }
-    {
-        match self {
-            Table::Tracks => Record::Track(track_record(row)),
-            Table::Genres => Record::Genre {
-                id: field::u32_at(row, 0x00),
-            },
-            Table::Artists => Record::Artist {
-                id: field::u32_at(row, 0x04),
-            },
-            Table::Albums => album_record(row),
-            Table::Labels => Record::Label {
-                id: field::u32_at(row, 0x00),
-            },
-            Table::Keys => Record::Key {
-                id: field::u32_at(row, 0x00),
-            },
-            Table::Colors => Record::Color {
-                id: field::u16_at(row, 0x05),
-            },
-            Table::PlaylistTree => node_record(row),
-            Table::PlaylistEntries => entry_record(row),
-            Table::Artwork => Record::Artwork {
-                id: field::u32_at(row, 0x00),
-            },
-        }
+// A row's numbers; bytes that the row does not have count as 0.
+pub fn read_record(table: Table, row: &[u8]) -> Record
+    ensures { λ r. ⌜ recordOf r ≡ readRecord table (now (row .entry)) ⌝ }
+{
+    match table {
+        Table::Tracks => Record::Track(track_record(row)),
+        Table::Genres => Record::Genre {
+            id: number::u32_at(row, 0x00),
+        },
+        Table::Artists => Record::Artist {
+            id: number::u32_at(row, 0x04),
+        },
+        Table::Albums => album_record(row),
+        Table::Labels => Record::Label {
+            id: number::u32_at(row, 0x00),
+        },
+        Table::Keys => Record::Key {
+            id: number::u32_at(row, 0x00),
+        },
+        Table::Colors => Record::Color {
+            id: number::u16_at(row, 0x05),
+        },
+        Table::PlaylistTree => node_record(row),
+        Table::PlaylistEntries => entry_record(row),
+        Table::Artwork => Record::Artwork {
+            id: number::u32_at(row, 0x00),
+        },
     }
 }

@@ -1,4 +1,7 @@
+pub mod Received
+pub mod Holds
 pub mod Call
+pub mod Run
 pub mod File
 pub mod Written
 pub mod Refusal

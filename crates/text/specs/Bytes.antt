@@ -1,22 +1,16 @@
--- Document 01, "What an answer may depend on": the bytes of a string, its head and its text.
-use mathlib.Core.Bool.{Bool, false, cond, _||_}
-use mathlib.Core.List.{List}
-use Prim.Native.Nat.{ℕ, _%_}
-use lib.Dec.{eqb}
-use Rattle.field.specs.Number.{byteAt}
-use Rattle.field.specs.Agree.{within}
-use Rattle.text.specs.declared.Text.{Text}
-use Rattle.text.specs.declared.Text.the-variants.{At, Malformed}
-use Rattle.text.specs.Text.{readText}
+-- Rule 7.6: the bytes of a string that are relevant, its head and its text.
+use mathlib.Core.Bool.{Bool, false, _||_}
+use Prim.Native.Nat.{ℕ}
+use Rattle.lists.specs.Alias.{Bytes}
+use Rattle.number.specs.Number.{byteAt}
+use Rattle.number.specs.Agree.{within}
+use Rattle.refusal.specs.Answer.{Answer, given, refused}
+use Rattle.text.specs.Text.{TextAt, headSize, readText}
 
--- one byte, or four where the first is `40` or `90`
-unfoldable pub headSize : ℕ → ℕ
-headSize b = cond (eqb b 0x40 || eqb b 0x90) 4 1
-
-abbrev pub inText : Text → ℕ → Bool
-inText (At place len encoding) i = within place len i
-inText Malformed i = false
+abbrev pub inText : (found : Answer TextAt) (i : ℕ) → Bool
+inText (given text) i = within (text .place) (text .len) i
+inText (refused fault) i = false
 
 -- is true exactly when byte i belongs to the head or the text of the string at an offset
-unfoldable pub textByte : List ℕ → ℕ → ℕ → Bool
+unfoldable pub textByte : (s : Bytes) (at i : ℕ) → Bool
 textByte s at i = within at (headSize (byteAt s at)) i || inText (readText s at) i

@@ -1,38 +1,63 @@
--- Document 01, DeviceSQL strings: what the string at an offset of a row's part is.
--- s is the row's own part, from the row's start to the row index, so "end at or before the index" is to lie inside s.
-use mathlib.Core.Bool.{cond}
-use mathlib.Core.List.{List}
+-- Section 6: what the string at an offset of a row's part is. It rests on the numbers of crate number.
+-- s is the row's own part, from the row's start to the row index: to end where the index begins, or before, is to lie inside s.
+-- The page, which 15 carries, is not known here; reading a page sets it (page/Read `onPage`).
+use mathlib.Core.Bool.{Bool, cond, not, _&&_, _||_}
 use Prim.Native.Nat.{ℕ, _+_, _-_, _/_, _%_}
 use lib.ListN.{length}
 use lib.Dec.{ltb, leb, eqb}
-use Rattle.field.specs.Number.{byteAt, le16}
+use Rattle.lists.specs.Alias.{Bytes}
+use Rattle.number.specs.Number.{byteAt, le16}
+use Rattle.refusal.specs.Fault.{fault}
+use Rattle.refusal.specs.Answer.{Answer, given, refused, refuseIf}
 use Rattle.text.specs.declared.Encoding.{Encoding}
 use Rattle.text.specs.declared.Encoding.the-variants.{Ascii, Utf16}
 use Rattle.text.specs.declared.Text.{Text}
 use Rattle.text.specs.declared.Text.the-variants.{At, Malformed}
 
--- a string of total bytes with a head of so many bytes: "the whole string must end at or before the index"
-abbrev pub whole : List ℕ → ℕ → ℕ → ℕ → Encoding → Text
-whole s at head total encoding =
-    cond (ltb total head) Malformed (cond (ltb (length s - at) total) Malformed (At (at + head) (total - head) encoding))
+-- Rule 6.10: a text's first byte, its length in bytes and its encoding.
+pub record TextAt : Type 0 where
+  pub place : ℕ
+  pub len : ℕ
+  pub encoding : Encoding
 
--- "Odd b: total length is b/2 rounded down, at least 1; text is the rest after that byte, ASCII."
-unfoldable pub shortText : List ℕ → ℕ → ℕ → Text
-shortText s at b = whole s at 1 (b / 2) Ascii
+-- Rule 6.1: by its first byte a string is short (odd) or long (`40`, `90`).
+abbrev pub isShort : ℕ → Bool
+isShort first = eqb (first % 2) 1
 
--- "`40` and `90`: two bytes of total length, at least 4, one byte not looked at, then text". "The four head bytes must end at or before the index."
-unfoldable pub longText : List ℕ → ℕ → Encoding → Text
-longText s at encoding = cond (ltb (length s - at) 4) Malformed (whole s at 4 (le16 s (at + 1)) encoding)
+abbrev pub isLong : ℕ → Bool
+isLong first = eqb first 0x40 || eqb first 0x90
 
--- "`90` is UTF-16 little-endian with an even total"
-unfoldable pub wideText : List ℕ → ℕ → Text
-wideText s at = cond (eqb (le16 s (at + 1) % 2) 0) (longText s at Utf16) Malformed
+-- Rules 6.2, 6.3: bytes of the head, and of the whole string at an offset.
+unfoldable pub headSize : ℕ → ℕ
+headSize first = cond (isLong first) 4 1
 
--- "The first byte decides: odd, `40`, `90`, or malformed."
-abbrev pub textOfKind : List ℕ → ℕ → ℕ → Text
-textOfKind s at b =
-    cond (eqb (b % 2) 1) (shortText s at b) (cond (eqb b 0x40) (longText s at Ascii) (cond (eqb b 0x90) (wideText s at) Malformed))
+unfoldable pub wholeSize : (s : Bytes) (at first : ℕ) → ℕ
+wholeSize s at first = cond (isLong first) (le16 s (at + 1)) (first / 2)
 
--- a string that starts at or past the index is malformed
-unfoldable pub readText : List ℕ → ℕ → Text
-readText s at = cond (leb (length s) at) Malformed (textOfKind s at (byteAt s at))
+-- Rules 6.2, 6.4, 6.5.
+abbrev pub encodingIn : ℕ → Encoding
+encodingIn first = cond (eqb first 0x90) Utf16 Ascii
+
+-- Rules 6.2, 6.3, 6.6: the text behind a head, in a string of so many bytes.
+unfoldable pub textBehind : (s : Bytes) (at head whole : ℕ) (encoding : Encoding) → Answer TextAt
+textBehind s at head whole encoding =
+    refuseIf (ltb whole head) (fault 15 0)  -- 6.2, 6.3
+    (refuseIf (ltb (length s - at) head) (fault 15 0)  -- 6.6, the head
+    (refuseIf (ltb (length s - at) whole) (fault 15 0)  -- 6.6, the whole
+    (given (record { place = at + head; len = whole - head; encoding = encoding }))))
+
+-- Rules 6.1, 6.5, then those above.
+abbrev pub textByKind : (s : Bytes) (at first : ℕ) → Answer TextAt
+textByKind s at first =
+    refuseIf (not (isShort first || isLong first)) (fault 15 0)  -- 6.1
+    (refuseIf (eqb first 0x90 && eqb (wholeSize s at first % 2) 1) (fault 15 0)  -- 6.5
+    (textBehind s at (headSize first) (wholeSize s at first) (encodingIn first)))
+
+-- Rule 6.7, then those above.
+unfoldable pub readText : (s : Bytes) (at : ℕ) → Answer TextAt
+readText s at = refuseIf (leb (length s) at) (fault 15 0) (textByKind s at (byteAt s at))
+
+-- the answer for each case of the code's enum
+abbrev pub textOf : Text → Answer TextAt
+textOf (At place len encoding) = given (record { place = place; len = len; encoding = encoding })
+textOf Malformed = refused (fault 15 0)

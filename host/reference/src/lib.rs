@@ -1,6 +1,7 @@
 //! An independent reference of the reader of `export.pdb` files that arrive in
-//! blocks. It is written from document 01 ("Build definition and exact rules")
-//! alone, so that another reader can be compared with it.
+//! blocks. It is written from the rules alone (docs/RULES.md, whose numbers the
+//! comments cite) and shares nothing with the proved code, so that the two can
+//! be compared.
 //!
 //! [`model`] is the reference. [`generate`] and [`damage`] make files for it,
 //! [`schedule`] makes runs of calls, as values and as lines of text.
@@ -24,6 +25,7 @@
 
 pub mod damage;
 pub mod generate;
+mod layout;
 pub mod model;
 pub mod rng;
 pub mod schedule;

@@ -122,7 +122,7 @@ pub struct Intake<'a> {
 }
 
 impl<'a> Intake<'a> {
-    /// Opens an intake for a file as long as the image: clears the map's counted words.
+    /// Opens an intake for a file as long as the image: clears the map's words in use.
     ///
     /// # Errors
     /// Refusals 1 to 3.

@@ -4,7 +4,8 @@
 //! are asked at any time: all rows of a table, a record, a string of a record. An answer is complete, or waits at the
 //! first page that is not wholly there, or is a [`Refusal`], which changes no memory.
 //!
-//! The work is done by the archive `libsarvoltig.a`, whose functions are proved; this crate names its numbers.
+//! The work is done by the library `lib/libsarvoltig.a`, whose functions are proved; this crate names its numbers.
+//! Rules are cited by their numbers in docs/RULES.md.
 //!
 //! ```
 //! use sarvoltig::{map_words, Intake, Table};

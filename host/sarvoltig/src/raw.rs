@@ -1,4 +1,4 @@
-//! The five functions of the archive over numbers and slices, as `include/sarvoltig.h` has them.
+//! The five functions of the proved library over numbers and slices, as `include/sarvoltig.h` has them.
 //!
 //! Each returns a code: [`DONE`], [`SAME`], [`WAITING`], or a refusal's number. The answer's values go to the
 //! front of `result`, as many as it takes; [`RESULT`] words take every answer.
@@ -12,7 +12,7 @@ pub const SAME: u32 = 64;
 /// Code of a walk that waits.
 pub const WAITING: u32 = 65;
 
-/// The archive's functions: a slice is passed as its pointer and its length.
+/// The library's functions: a slice is passed as its pointer and its length.
 mod c {
     extern "C" {
         pub fn sarvoltig_open(
@@ -74,7 +74,7 @@ mod c {
     }
 }
 
-/// Opens an intake for a file of `len` bytes: clears the map's counted words. Value: the number of blocks.
+/// Opens an intake for a file of `len` bytes: clears the map's words in use. Value: the number of blocks.
 pub fn open(len: u64, image: &[u8], map: &mut [u64], result: &mut [u64]) -> u32 {
     // SAFETY: each pointer comes from a slice and goes with its length; the function reads and writes inside them only.
     unsafe {

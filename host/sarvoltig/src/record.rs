@@ -129,7 +129,7 @@ impl Track {
 }
 
 impl Record {
-    /// The record of a table from its numbers, in document 01's order.
+    /// The record of a table from its numbers, in the order of rule 5.16.
     pub(crate) fn from_numbers(table: Table, n: &[u64; crate::raw::RESULT]) -> Self {
         let id = n[0] as u32;
         match table {

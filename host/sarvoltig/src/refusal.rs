@@ -1,4 +1,4 @@
-//! Refusals: document 01's numbers as an error type.
+//! Refusals: their numbers (rules 2.1 to 2.19) as an error type.
 
 use std::error::Error;
 use std::fmt;
@@ -65,7 +65,7 @@ pub enum Refusal {
 }
 
 impl Refusal {
-    /// The refusal of a number of document 01 with what it carries.
+    /// The refusal of a number (rules 2.1 to 2.19) with what it carries.
     #[must_use]
     pub fn new(number: u32, carries: u64) -> Self {
         match number {
@@ -92,7 +92,7 @@ impl Refusal {
         }
     }
 
-    /// Its number in document 01.
+    /// Its number (rules 2.1 to 2.19).
     #[must_use]
     pub fn number(self) -> u32 {
         match self {

@@ -168,10 +168,9 @@ impl Library {
         })
     }
 
-    fn rows(&self, table: u8, list: &mut [u32]) -> Result<Result<Reply, Refusal>, Failure> {
-        let coded = Coded::of(|result| {
-            raw::rows(self.len, &self.image, &self.map, table.into(), list, result)
-        });
+    fn rows(&self, table: u32, list: &mut [u32]) -> Result<Result<Reply, Refusal>, Failure> {
+        let coded =
+            Coded::of(|result| raw::rows(self.len, &self.image, &self.map, table, list, result));
         coded
             .answer(|c| match c.code {
                 DONE => Some(c.values(2).map(|v| Rows::Full {
@@ -185,10 +184,9 @@ impl Library {
             .map(|answer| answer.map(Reply::Rows))
     }
 
-    fn record(&self, table: u8, k: u64) -> Result<Result<Reply, Refusal>, Failure> {
-        let coded = Coded::of(|result| {
-            raw::record(self.len, &self.image, &self.map, table.into(), k, result)
-        });
+    fn record(&self, table: u32, k: u64) -> Result<Result<Reply, Refusal>, Failure> {
+        let coded =
+            Coded::of(|result| raw::record(self.len, &self.image, &self.map, table, k, result));
         coded
             .answer(|c| match c.code {
                 DONE => Some(
@@ -202,18 +200,9 @@ impl Library {
             .map(|answer| answer.map(|reply| Reply::Record(table, reply)))
     }
 
-    fn text(&self, table: u8, k: u64, slot: u64) -> Result<Result<Reply, Refusal>, Failure> {
-        let coded = Coded::of(|result| {
-            raw::text(
-                self.len,
-                &self.image,
-                &self.map,
-                table.into(),
-                k,
-                slot,
-                result,
-            )
-        });
+    fn text(&self, table: u32, k: u64, slot: u64) -> Result<Result<Reply, Refusal>, Failure> {
+        let coded =
+            Coded::of(|result| raw::text(self.len, &self.image, &self.map, table, k, slot, result));
         coded
             .answer(|c| match c.code {
                 DONE => Some(c.values(3).and_then(found_text)),
@@ -239,7 +228,7 @@ fn found_text(values: &[u64]) -> Result<TextReply, Failure> {
 }
 
 /// How many numbers a record of a table has.
-fn numbers_in(table: u8) -> usize {
+fn numbers_in(table: u32) -> usize {
     match table {
         0 => 22,
         3 => 2,

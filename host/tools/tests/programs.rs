@@ -62,6 +62,20 @@ fn the_demo_refuses_what_is_no_export() {
 }
 
 #[test]
+fn the_demo_ends_quietly_when_nobody_reads() {
+    let mut demo = Command::new(env!("CARGO_BIN_EXE_demo"))
+        .arg(stored_export())
+        .stdout(Stdio::piped())
+        .stderr(Stdio::piped())
+        .spawn()
+        .expect("the demo runs");
+    drop(demo.stdout.take());
+    let output = demo.wait_with_output().expect("an end");
+    assert!(output.status.success());
+    assert_eq!(String::from_utf8_lossy(&output.stderr), "");
+}
+
+#[test]
 fn replay_reads_standard_input() {
     let mut replay = Command::new(env!("CARGO_BIN_EXE_replay"))
         .stdin(Stdio::piped())
@@ -93,4 +107,17 @@ fn soak_takes_a_seed_and_a_time() {
         "{text}"
     );
     assert_eq!(soak(&["3"]).status.code(), Some(2));
+}
+
+#[test]
+fn compare_takes_a_seed_and_a_number_of_runs() {
+    let compare = |words: &[&str]| {
+        let mut compare = Command::new(env!("CARGO_BIN_EXE_compare"));
+        compare.args(words).output().expect("compare runs")
+    };
+    let output = compare(&["95", "10"]);
+    assert!(output.status.success());
+    let text = String::from_utf8_lossy(&output.stdout);
+    assert_eq!(text, "10 runs from seed 95 on, no difference\n");
+    assert_eq!(compare(&["95"]).status.code(), Some(2));
 }

@@ -17,7 +17,7 @@ fn with_intake<T>(file: &[u8], look: impl FnOnce(&Intake) -> T) -> T {
     look(&intake)
 }
 
-/// A record's numbers in document 01's order.
+/// A record's numbers, in the order of rule 5.16.
 fn numbers(record: Record) -> Vec<u64> {
     let numbers = match record {
         Record::Track(track) => return track_numbers(track),
@@ -138,7 +138,7 @@ fn answers(file: &[u8]) -> String {
 }
 
 #[test]
-fn bytes_that_do_not_count_change_no_answer() {
+fn irrelevant_bytes_change_no_answer() {
     let mut rng = Rng::new(5);
     for seed in 100..140 {
         let Export {

@@ -1,100 +1,39 @@
--- `chain::fill` meets its contract, by the loop's invariant `Writing` (proofs/Writing).
+-- `chain::fill` meets its contract: the directory's answer chooses the case of `chainPlaces`.
 use borrow.Author.Needs.{needs}
-use Rattle.chain.proofs.Writing.{Writing, begin, end, kept, short, next}
-use Rattle.chain.proofs.PageParts.{part-next}
 use Rattle.chain.proofs.fill.Statement.{statement}
 use Rattle.chain.proofs.fill.Tie as tie
 
-abbrev Inv-loop : tie.InvT-loop
-Inv-loop size first pages image list₀ page₀ left₀ at₀ list page left at = Writing size image first pages list₀ page left at list
+chain-requires : tie.Need-chain-requires
+chain-requires c κs = search needs
 
-abbrev μ-loop : tie.MeasureT-loop
-μ-loop size first pages image list₀ page₀ left₀ at₀ list page left at = left
+enum-known-chain : tie.Need-enum-known-chain
+enum-known-chain c = search needs
 
-loop-holds : tie.Need-loop-holds Inv-loop μ-loop
-loop-holds c = begin _ _ _ _ _
+fill-along-requires : tie.Need-fill-along-requires
+fill-along-requires c κs = search needs
 
-mul-fill-page : tie.Need-mul-fill-page Inv-loop μ-loop
-mul-fill-page c = search needs
+enum-told : tie.Need-enum-told
+enum-told c = search needs
 
-sub-fill-page : tie.Need-sub-fill-page Inv-loop μ-loop
-sub-fill-page c = search needs
+same-length : tie.Need-same-length
+same-length c = search needs
 
-part-fill-page-start : tie.Need-part-fill-page-start Inv-loop μ-loop
-part-fill-page-start c = search needs
-
-part-fill-page-end : tie.Need-part-fill-page-end Inv-loop μ-loop
-part-fill-page-end c = search needs
-
-fill-page-requires : tie.Need-fill-page-requires Inv-loop μ-loop
-fill-page-requires c κs = search needs
-
-sub-if1 : tie.Need-sub-if1 Inv-loop μ-loop
-sub-if1 c = search needs
-
-same-length : tie.Need-same-length Inv-loop μ-loop
-same-length c =
-    let turn = c .before .before .before .before .before in
-    let inv = turn .before .loop .inv in
-    let wrote = c .before .before .before .fill-page .ensures in
-    kept inv (turn .loop-test .taken) (wrote .0) (wrote .1)
-
-returns : tie.Need-returns Inv-loop μ-loop
+returns : tie.Need-returns
 returns c =
-    let turn = c .before .before .before .before .before in
-    let inv = turn .before .loop .inv in
-    let wrote = c .before .before .before .fill-page .ensures in
-    short inv (turn .loop-test .taken) (wrote .0) (wrote .1) (c .if1 .taken)
+    let found = c .before .before .before .before .before in
+    rw (← found .before .before .chain .ensures, found .chain2 .given .1) (c .before .before .fill-along .ensures)
 
-add-at : tie.Need-add-at Inv-loop μ-loop
-add-at c = search needs
-
-part-requires : tie.Need-part-requires Inv-loop μ-loop
-part-requires c κs = search needs
-
-next-requires : tie.Need-next-requires Inv-loop μ-loop
-next-requires c κs = search needs
-
-sub-left : tie.Need-sub-left Inv-loop μ-loop
-sub-left c = search needs
-
-loop-less : tie.Need-loop-less Inv-loop μ-loop
-loop-less c = search needs
-
-loop-again : tie.Need-loop-again Inv-loop μ-loop
-loop-again c =
-    let test = c .before .before in
-    let turn = test .before .before .before .before .before in
-    let inv = turn .before .loop .inv in
-    let wrote = test .before .before .before .fill-page .ensures in
-    next inv (turn .loop-test .taken) (wrote .0) (wrote .1) (test .if1 .left) (part-next _ _ _ (c .before .part .ensures) (c .next .ensures))
-
-same-length-2 : tie.Need-same-length-2 Inv-loop μ-loop
-same-length-2 c = c .before .loop .inv .same
-
-returns-2 : tie.Need-returns-2 Inv-loop μ-loop
-returns-2 c = end (c .before .loop .inv) (c .loop-test .left)
+returns-2 : tie.Need-returns-2
+returns-2 c = rw (← c .before .before .chain .ensures, c .enum-told .given .1)
 
 pub fill-spec : {M : Type 1} → statement M
 fill-spec =
     tie.close
     (tie.spec
-    Inv-loop
-    μ-loop
-    loop-holds
-    mul-fill-page
-    sub-fill-page
-    part-fill-page-start
-    part-fill-page-end
-    fill-page-requires
-    sub-if1
+    chain-requires
+    enum-known-chain
+    fill-along-requires
+    enum-told
     same-length
     returns
-    add-at
-    part-requires
-    next-requires
-    sub-left
-    loop-less
-    loop-again
-    same-length-2
     returns-2)

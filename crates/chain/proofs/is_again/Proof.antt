@@ -1,7 +1,7 @@
--- `chain::is_again` meets its contract: past the first two tests, count is compared as `most` of it is (proofs/Going).
+-- `chain::is_again` meets its contract: past the first two tests, count is compared as `most` of it is (proofs/WalkLoop).
 use borrow.Author.Needs.{needs}
 use borrow.Author.Tests.{eq-eqb, ne-eqb}
-use Rattle.chain.proofs.Going.{most-full, most-left}
+use Rattle.chain.proofs.WalkLoop.{most-full, most-left}
 use Rattle.chain.proofs.is_again.Statement.{statement}
 use Rattle.chain.proofs.is_again.Tie as tie
 

@@ -1,11 +1,11 @@
--- `chain::is_held` meets its contract: the loop looks for a block that is missing (proofs/Holding).
+-- `chain::is_held` meets its contract: the loop looks for a block that is missing (proofs/HeldLoop).
 use mathlib.Core.Path.{refl}
 use Prim.Native.Nat.{_-_}
 use native.Mathlib.Omega.{arith}
 use borrow.Author.Needs.{needs}
 use Rattle.chain.specs.Held.{blockMissing, blocksInPage}
-use Rattle.field.proofs.Any.{Looking, look-begin, look-here, look-next, look-end}
-use Rattle.chain.proofs.Holding.{anyMissing, block-bit, held-none, block-low}
+use Rattle.lists.proofs.Any.{Looking, look-begin, look-here, look-next, look-end}
+use Rattle.chain.proofs.HeldLoop.{anyMissing, block-bit, held-none, block-low}
 use Rattle.chain.proofs.is_held.Statement.{statement}
 use Rattle.chain.proofs.is_held.Tie as tie
 
@@ -47,7 +47,8 @@ loop-less c = search needs
 loop-again : tie.Need-loop-again Inv-loop μ-loop
 loop-again c =
     let turn = c .before .before in
-    look-next (turn .before .loop .inv) (turn .loop-test .taken) (block-bit _ _ _ (turn .before .loop .i) (c .before .has-bit .ensures) (c .if1 .left))
+    let here = block-bit _ _ _ (turn .before .loop .i) (c .before .has-bit .ensures) (c .if1 .left) in
+    look-next (turn .before .loop .inv) (turn .loop-test .taken) here
 
 returns-2 : tie.Need-returns-2 Inv-loop μ-loop
 returns-2 c = held-none _ _ _ (look-end (c .before .loop .inv) (c .loop-test .left))

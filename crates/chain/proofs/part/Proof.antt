@@ -1,7 +1,7 @@
--- `chain::part` meets its contract: the tests say which of three slices the part is (proofs/PageParts).
+-- `chain::part` meets its contract: the tests say which of three slices the part is (proofs/PagePart).
 use native.Mathlib.Omega.{arith}
 use borrow.Author.Needs.{needs}
-use Rattle.chain.proofs.PageParts.{start-at, end-at, part-past, part-cut, part-whole}
+use Rattle.chain.proofs.PagePart.{start-at, end-at, part-past, part-cut, part-whole}
 use Rattle.chain.proofs.part.Statement.{statement}
 use Rattle.chain.proofs.part.Tie as tie
 
@@ -36,13 +36,13 @@ sub-result-3 : tie.Need-sub-result-3
 sub-result-3 c =
     let a = c .before .before .before .before .args in
     let e = c .before .before .new .ensures in
-    omega (arith, start-at (a .image .now) (a .size) (a .number) e, end-at (a .image .now) (a .size) (a .number) e)
+    omega (arith, start-at (a .size) (a .number) e, end-at (a .size) (a .number) e)
 
 part-result-start-3 : tie.Need-part-result-start-3
 part-result-start-3 c =
     let a = c .before .before .before .before .args in
     let e = c .before .before .new .ensures in
-    omega (arith, start-at (a .image .now) (a .size) (a .number) e, end-at (a .image .now) (a .size) (a .number) e)
+    omega (arith, start-at (a .size) (a .number) e, end-at (a .size) (a .number) e)
 
 part-result-end-3 : tie.Need-part-result-end-3
 part-result-end-3 c = search needs

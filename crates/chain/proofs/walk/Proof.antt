@@ -1,142 +1,33 @@
--- `chain::walk` meets its contract, by the loop's invariant `Going` (proofs/Going): each way out is one of its laws.
-use mathlib.Core.Path.{_≡_, sym, _∙_}
-use mathlib.Core.Logic.{⊎-elim, inl, inr}
-use Prim.Native.Nat.{_-_, _≤_}
-use native.Mathlib.Omega.{arith}
+-- `chain::walk` meets its contract: the directory's answer chooses the case of `chainWalk`.
 use borrow.Author.Needs.{needs}
-use borrow.Author.Tests.{not-true, not-false}
-use Rattle.field.specs.Fault.{given}
-use Rattle.page.specs.Read.{readPage, counted}
-use Rattle.chain.specs.File.{pagePart, filePages}
-use Rattle.chain.proofs.Going.{Going, OnPage, begin, outside, stopped, going-on, rows-room, missing, faulty, at-last, onward}
-use Rattle.chain.proofs.PageParts.{part-next}
-use Rattle.chain.proofs.Reading.{read-given, read-refused, found-low}
 use Rattle.chain.proofs.walk.Statement.{statement}
 use Rattle.chain.proofs.walk.Tie as tie
 
-abbrev Inv-loop : tie.InvT-loop
-Inv-loop size count first last table image map page₀ holder₀ rows₀ pages₀ mark₀ page holder rows pages mark =
-    Going (filePages size count last table image map) first rows pages mark holder page
+chain-requires : tie.Need-chain-requires
+chain-requires c κs = search needs
 
-abbrev μ-loop : tie.MeasureT-loop
-μ-loop size count first last table image map page₀ holder₀ rows₀ pages₀ mark₀ page holder rows pages mark =
-    0x1_0000_0000 - pages
+enum-known-chain : tie.Need-enum-known-chain
+enum-known-chain c = search needs
 
-loop-holds : tie.Need-loop-holds Inv-loop μ-loop
-loop-holds c = begin _ _ (omega arith)
+walk-chain-requires : tie.Need-walk-chain-requires
+walk-chain-requires c κs = search needs
 
-linkable-requires : tie.Need-linkable-requires Inv-loop μ-loop
-linkable-requires c κs = search needs
+enum-known-chain-2 : tie.Need-enum-known-chain-2
+enum-known-chain-2 c = search needs
 
-is-again-requires : tie.Need-is-again-requires Inv-loop μ-loop
-is-again-requires c κs = search needs
+returns : tie.Need-returns
+returns c = rw (← c .before .before .before .before .chain .ensures, c .before .before .chain2 .given .1) (c .walk-chain .ensures)
 
-returns : tie.Need-returns Inv-loop μ-loop
-returns c =
-    let test = c .before .before in
-    stopped (test .before .before .loop .inv) (sym (test .before .linkable .ensures) ∙ test .if1 .taken) (c .before .is-again .ensures) (c .if2 .taken)
-
-is-held-requires : tie.Need-is-held-requires Inv-loop μ-loop
-is-held-requires c κs = search needs
-
-returns-2 : tie.Need-returns-2 Inv-loop μ-loop
-returns-2 c =
-    let test = c .before .before .before .before in
-    missing (test .before .before .loop .inv) (sym (test .before .linkable .ensures) ∙ test .if1 .taken) (sym (c .before .is-held .ensures) ∙ not-true _ (c .if3 .taken))
-
-part-requires : tie.Need-part-requires Inv-loop μ-loop
-part-requires c κs = search needs
-
-read-requires : tie.Need-read-requires Inv-loop μ-loop
-read-requires c κs = search needs
-
-enum-known-refusal : tie.Need-enum-known-refusal Inv-loop μ-loop
-enum-known-refusal c = search needs
-
--- the page is held, and is about to be read
-turn : (c : tie.Else3 Inv-loop μ-loop) →
-    let args = c .before .before .before .before .before .before .before .before .before .args in
-    let loop = c .before .before .before .before .before .before .loop in
-    OnPage (filePages (args .size) (args .count) (args .last) (args .table) (args .image .now) (args .map .now)) (args .first) (loop .rows) (loop .pages) (loop .mark) (loop .holder) (loop .page)
-turn c =
-    let test = c .before .before .before .before in
-    let going = test .before .before .loop .inv in
-    record {
-      going = going;
-      inside = sym (test .before .linkable .ensures) ∙ test .if1 .taken;
-      held = sym (c .before .is-held .ensures) ∙ not-false _ (c .if3 .left);
-      left = going-on going (c .before .before .before .is-again .ensures) (c .before .before .if2 .left);
-    }
-
-returns-3 : tie.Need-returns-3 Inv-loop μ-loop
-returns-3 c =
-    let here = turn (c .before .before .before .before .before) in
-    faulty (here .going) (here .inside) (here .held) _ (read-refused _ _ _ _ (c .before .before .before .before .part .ensures) (c .before .before .before .read .ensures) (c .before .refusal .given .1))
-
-enum-known-found : tie.Need-enum-known-found Inv-loop μ-loop
-enum-known-found c = search needs
-
--- the page's rows, and that they are few
-count : (c : tie.After-known-told2 Inv-loop μ-loop) →
-    let args = c .before .before .before .before .before .before .before .before .before .before .before .before .before .before .args in
-    let page = c .before .before .before .before .before .before .before .before .before .before .before .loop .page in
-    (given (c .before .found .given .0 .0) ≡ counted (readPage page (args .table) (pagePart (args .size) (args .image .now) page))) × (c .before .found .given .0 .0 ≤ 0xffff_ffff)
-count c =
-    let start = c .before .before .before .before .before .before .before .before .before .before .before .before .before .before in
-    let e = read-given (start .args .size) (start .args .image .now) (c .before .before .before .before .before .before .before .before .before .before .before .loop .page) (start .args .table) (c .before .before .before .before .part .ensures) (c .before .before .before .read .ensures) (c .before .found .given .1) in
-    (e, omega (arith, found-low (start .args .size) (start .args .image .now) (c .before .before .before .before .before .before .before .before .before .before .before .loop .page) (start .args .table) (c .before .found .given .0 .0) e, start .fits))
-
-add-rows : tie.Need-add-rows Inv-loop μ-loop
-add-rows c =
-    let here = turn (c .before .before .before .before .before) in
-    record { fits = rows-room (here .going) (here .left) (count c .1) }
-
-add-pages : tie.Need-add-pages Inv-loop μ-loop
-add-pages c = omega (arith, c .before .before .before .before .before .before .before .before .before .before .before .loop .inv .room)
-
-returns-4 : tie.Need-returns-4 Inv-loop μ-loop
-returns-4 c =
-    let here = turn (c .before .before .before .before .before .before) in
-    at-last (here .going) (here .inside) (here .held) (count (c .before) .0) (c .if4 .taken)
-
-next-requires : tie.Need-next-requires Inv-loop μ-loop
-next-requires c κs = search needs
-
-loop-less : tie.Need-loop-less Inv-loop μ-loop
-loop-less c = omega (arith, c .before .before .before .before .before .before .before .before .before .before .before .before .before .before .loop .inv .room)
-
-loop-again : tie.Need-loop-again Inv-loop μ-loop
-loop-again c =
-    let here = turn (c .before .before .before .before .before .before .before .before) in
-    let found = count (c .before .before .before) in
-    let next = part-next _ _ _ (c .before .before .before .before .before .before .before .part .ensures) (c .next .ensures) in
-    onward (here .going) (here .inside) (here .held) (found .0) (omega arith) (here .left) (found .1) (c .before .before .if4 .left) next
-    (⊎-elim (λ w. inr (w .1)) (λ w. inl (w .1)) (c .before .if5 .came))
-
-returns-5 : tie.Need-returns-5 Inv-loop μ-loop
-returns-5 c = outside (c .before .before .loop .inv) (sym (c .before .linkable .ensures) ∙ c .if1 .left)
+returns-2 : tie.Need-returns-2
+returns-2 c = rw (← c .before .before .before .chain .ensures, c .before .chain3 .given .1)
 
 pub walk-spec : {M : Type 1} → statement M
 walk-spec =
     tie.close
     (tie.spec
-    Inv-loop
-    μ-loop
-    loop-holds
-    linkable-requires
-    is-again-requires
+    chain-requires
+    enum-known-chain
+    walk-chain-requires
+    enum-known-chain-2
     returns
-    is-held-requires
-    returns-2
-    part-requires
-    read-requires
-    enum-known-refusal
-    returns-3
-    enum-known-found
-    add-rows
-    add-pages
-    returns-4
-    next-requires
-    loop-less
-    loop-again
-    returns-5)
+    returns-2)

@@ -7,7 +7,8 @@ use Rattle.desk_runs.proofs.run_args.Statement.{statement}
 use Rattle.desk_runs.proofs.run_args.Tie as tie
 
 abbrev Inv-loop : tie.InvT-loop
-Inv-loop path₀ image₀ map₀ list₀ count i₀ path image map list i = (length path ≡ length path₀) × (length image ≡ length image₀) × (length map ≡ length map₀) × (length list ≡ length list₀)
+Inv-loop path₀ image₀ map₀ list₀ count i₀ path image map list i =
+    (length path ≡ length path₀) × (length image ≡ length image₀) × (length map ≡ length map₀) × (length list ≡ length list₀)
 
 abbrev μ-loop : tie.MeasureT-loop
 μ-loop path₀ image₀ map₀ list₀ count i₀ path image map list i = count - i

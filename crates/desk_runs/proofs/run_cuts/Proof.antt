@@ -1,4 +1,4 @@
--- `desk_runs::run_cuts` ends: it counts up to 516.
+-- `desk_runs::run_cuts` ends: it counts up to the length of a delivery.
 use mathlib.Core.Path.{_≡_}
 use Prim.Native.Nat.{_-_}
 use lib.ListN.{length}
@@ -7,7 +7,8 @@ use Rattle.desk_runs.proofs.run_cuts.Statement.{statement}
 use Rattle.desk_runs.proofs.run_cuts.Tie as tie
 
 abbrev Inv-loop : tie.InvT-loop
-Inv-loop image₀ map₀ list₀ n₀ t6 image map list n = (length image ≡ length image₀) × (length map ≡ length map₀) × (length list ≡ length list₀)
+Inv-loop image₀ map₀ list₀ n₀ t6 image map list n =
+    (length image ≡ length image₀) × (length map ≡ length map₀) × (length list ≡ length list₀)
 
 abbrev μ-loop : tie.MeasureT-loop
 μ-loop image₀ map₀ list₀ n₀ t6 image map list n = 516 - n

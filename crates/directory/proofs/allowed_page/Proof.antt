@@ -1,7 +1,7 @@
 -- `directory::allowed_page` meets its contract: the tests that led to each return choose the value of `allowedPage`.
 use borrow.Author.Needs.{needs}
 use Rattle.directory.specs.Header.{allowedPage}
-use Rattle.field.proofs.Choice.{tests}
+use Rattle.lists.proofs.Choice.{tests}
 use Rattle.directory.proofs.allowed_page.Statement.{statement}
 use Rattle.directory.proofs.allowed_page.Tie as tie
 

@@ -1,6 +1,6 @@
 -- `directory::allowed_tables` meets its contract: its two tests are those of `allowedTables`.
 use Rattle.directory.specs.Header.{allowedTables}
-use Rattle.field.proofs.Choice.{tests}
+use Rattle.lists.proofs.Choice.{tests}
 use Rattle.directory.proofs.allowed_tables.Statement.{statement}
 use Rattle.directory.proofs.allowed_tables.Tie as tie
 

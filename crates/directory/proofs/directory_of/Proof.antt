@@ -1,7 +1,7 @@
--- `directory::directory_of` meets its contract: a header that holds has a page length above 0 and at most 30 pointers (proofs/Holding).
+-- `directory::directory_of` meets its contract: a header that holds has a page length above 0 and at most 30 pointers (proofs/GoodHeader).
 use native.Mathlib.Omega.{arith}
 use borrow.Author.Needs.{needs}
-use Rattle.directory.proofs.Holding.{holding}
+use Rattle.directory.proofs.GoodHeader.{good-header}
 use Rattle.directory.proofs.directory_of.Statement.{statement}
 use Rattle.directory.proofs.directory_of.Tie as tie
 
@@ -17,13 +17,13 @@ cast-t5 c = search needs
 div-t6 : tie.Need-div-t6
 div-t6 c =
     let a = c .before .before .before in
-    let h = holding (a .args .len) (a .args .block .now) (a .pre) in
+    let h = good-header (a .args .len) (a .args .block .now) (a .pre) in
     omega (arith, c .before .u32-at .ensures)
 
 keep-requires : tie.Need-keep-requires
 keep-requires c κs =
     let a = c .before .before .before in
-    let h = holding (a .args .len) (a .args .block .now) (a .pre) in
+    let h = good-header (a .args .len) (a .args .block .now) (a .pre) in
     omega (arith, c .u32-at2 .ensures)
 
 returns : tie.Need-returns

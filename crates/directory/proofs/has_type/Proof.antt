@@ -1,11 +1,11 @@
--- `directory::has_type` meets its contract, by the invariant of a loop that looks for a pointer (field, proofs/Any).
+-- `directory::has_type` meets its contract, by the invariant of a loop that looks for a pointer (crate `lists`, proofs/Any).
 use mathlib.Core.Path.{refl}
 use Prim.Native.Nat.{ℕ, _-_}
 use lib.Dec.{eqb}
 use borrow.Author.Needs.{needs}
 use borrow.Author.Tests.{eq-eqb, ne-eqb}
 use Rattle.directory.specs.Header.{type, hasType}
-use Rattle.field.proofs.Any.{Looking, look-begin, look-here, look-next, look-end}
+use Rattle.lists.proofs.Any.{Looking, look-begin, look-here, look-next, look-end}
 use Rattle.directory.proofs.has_type.Statement.{statement}
 use Rattle.directory.proofs.has_type.Tie as tie
 
@@ -23,7 +23,9 @@ type-at-requires : tie.Need-type-at-requires Inv-loop μ-loop
 type-at-requires c κs = search needs
 
 returns : tie.Need-returns Inv-loop μ-loop
-returns c = look-here (c .before .before .before .loop .inv) (c .before .before .loop-test .taken) (rw (← c .before .type-at .ensures) (eq-eqb _ _ (c .if1 .taken)))
+returns c =
+    let turn = c .before .before in
+    look-here (turn .before .loop .inv) (turn .loop-test .taken) (rw (← c .before .type-at .ensures) (eq-eqb _ _ (c .if1 .taken)))
 
 add-i : tie.Need-add-i Inv-loop μ-loop
 add-i c = search needs
@@ -32,7 +34,9 @@ loop-less : tie.Need-loop-less Inv-loop μ-loop
 loop-less c = search needs
 
 loop-again : tie.Need-loop-again Inv-loop μ-loop
-loop-again c = look-next (c .before .before .before .loop .inv) (c .before .before .loop-test .taken) (rw (← c .before .type-at .ensures) (ne-eqb _ _ (c .if1 .left)))
+loop-again c =
+    let turn = c .before .before in
+    look-next (turn .before .loop .inv) (turn .loop-test .taken) (rw (← c .before .type-at .ensures) (ne-eqb _ _ (c .if1 .left)))
 
 returns-2 : tie.Need-returns-2 Inv-loop μ-loop
 returns-2 c = look-end (c .before .loop .inv) (c .loop-test .left)

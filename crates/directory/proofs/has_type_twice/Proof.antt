@@ -1,9 +1,9 @@
--- `directory::has_type_twice` meets its contract, by the invariant of a loop that looks for a pointer (field, proofs/Any).
+-- `directory::has_type_twice` meets its contract, by the invariant of a loop that looks for a pointer (crate `lists`, proofs/Any).
 use mathlib.Core.Path.{refl}
 use Prim.Native.Nat.{ℕ, _-_}
 use borrow.Author.Needs.{needs}
 use Rattle.directory.specs.Header.{type, hasType, typeTwice}
-use Rattle.field.proofs.Any.{Looking, look-begin, look-here, look-next, look-end}
+use Rattle.lists.proofs.Any.{Looking, look-begin, look-here, look-next, look-end}
 use Rattle.directory.proofs.has_type_twice.Statement.{statement}
 use Rattle.directory.proofs.has_type_twice.Tie as tie
 
@@ -26,7 +26,8 @@ has-type-requires c κs = search needs
 returns : tie.Need-returns Inv-loop μ-loop
 returns c =
     let turn = c .before .before .before in
-    look-here (turn .before .loop .inv) (turn .loop-test .taken) (rw (← c .before .before .type-at .ensures, ← c .before .has-type .ensures) (c .if1 .taken))
+    let found = c .before in
+    look-here (turn .before .loop .inv) (turn .loop-test .taken) (rw (← found .before .type-at .ensures, ← found .has-type .ensures) (c .if1 .taken))
 
 add-i : tie.Need-add-i Inv-loop μ-loop
 add-i c = search needs
@@ -37,7 +38,8 @@ loop-less c = search needs
 loop-again : tie.Need-loop-again Inv-loop μ-loop
 loop-again c =
     let turn = c .before .before .before in
-    look-next (turn .before .loop .inv) (turn .loop-test .taken) (rw (← c .before .before .type-at .ensures, ← c .before .has-type .ensures) (c .if1 .left))
+    let found = c .before in
+    look-next (turn .before .loop .inv) (turn .loop-test .taken) (rw (← found .before .type-at .ensures, ← found .has-type .ensures) (c .if1 .left))
 
 returns-2 : tie.Need-returns-2 Inv-loop μ-loop
 returns-2 c = look-end (c .before .loop .inv) (c .loop-test .left)

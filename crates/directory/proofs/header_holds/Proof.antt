@@ -28,11 +28,17 @@ returns-2 : tie.Need-returns-2
 unfolding headerHolds
 returns-2 c =
     let page = c .before .before .before in
-    rw (← page .before .before .before .u32-at .ensures, eq-eqb _ _ (page .before .before .if1 .left), ← page .before .u32-at2 .ensures, ← page .allowed-page .ensures, c .before .before .if2 .taken, ← c .before .u32-at3 .ensures) (c .tables-hold .ensures)
+    let zeros = page .before .before in
+    rw (← zeros .before .u32-at .ensures, eq-eqb _ _ (zeros .if1 .left))
+    (rw (← page .before .u32-at2 .ensures, ← page .allowed-page .ensures, c .before .before .if2 .taken, ← c .before .u32-at3 .ensures)
+    (c .tables-hold .ensures))
 
 returns-3 : tie.Need-returns-3
 unfolding headerHolds
-returns-3 c = rw (← c .before .before .before .before .u32-at .ensures, eq-eqb _ _ (c .before .before .before .if1 .left), ← c .before .before .u32-at2 .ensures, ← c .before .allowed-page .ensures, c .if2 .left)
+returns-3 c =
+    let page = c .before in
+    let zeros = page .before .before in
+    rw (← zeros .before .u32-at .ensures, eq-eqb _ _ (zeros .if1 .left), ← page .before .u32-at2 .ensures, ← page .allowed-page .ensures, c .if2 .left)
 
 pub header-holds-spec : {M : Type 1} → statement M
 header-holds-spec =

@@ -1,10 +1,10 @@
--- `directory::keep` meets its contract. The loop's invariant: the array is `kept` of the pointers before i (proofs/Kept).
+-- `directory::keep` meets its contract. The loop's invariant: the array is `kept` of the pointers before i (proofs/PointersKept).
 use mathlib.Core.Path.{_≡_}
 use Prim.Native.Nat.{_-_, _≤_}
 use native.Mathlib.Omega.{arith}
 use borrow.Author.Needs.{needs}
 use Rattle.directory.specs.Directory.{kept}
-use Rattle.directory.proofs.Kept.{kept-none, kept-more}
+use Rattle.directory.proofs.PointersKept.{kept-none, kept-more}
 use Rattle.directory.proofs.keep.Statement.{statement}
 use Rattle.directory.proofs.keep.Tie as tie
 

@@ -31,7 +31,12 @@ u32-at-requires-4 : tie.Need-u32-at-requires-4
 u32-at-requires-4 c κs = search needs
 
 returns : tie.Need-returns
-returns c = λ i. record { «table_type» = c .before .before .before .u32-at .ensures i; «empty_candidate» = c .before .before .u32-at2 .ensures i; «first_page» = c .before .u32-at3 .ensures i; «last_page» = c .u32-at4 .ensures i }
+returns c = λ i. record {
+  «table_type» = c .before .before .before .u32-at .ensures i;
+  «empty_candidate» = c .before .before .u32-at2 .ensures i;
+  «first_page» = c .before .u32-at3 .ensures i;
+  «last_page» = c .u32-at4 .ensures i;
+}
 
 pub pointer-at-spec : {M : Type 1} → statement M
 pointer-at-spec =

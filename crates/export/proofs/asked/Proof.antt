@@ -1,6 +1,9 @@
--- `export::asked` meets its contract: the check's verdict chooses the case of `unlessFault`.
+-- `export::asked` meets its contract: the check's verdict says whether `checkCall` goes on to the table.
+use mathlib.Core.Path.{sym, _∙_}
 use borrow.Author.Needs.{needs}
-use Rattle.export.specs.Walk.{askedTable}
+use Rattle.intake.specs.Memory.{memory}
+use Rattle.export.specs.Asked.{askedTable}
+use Rattle.intake.proofs.RulesPassed.{call-refused, call-passes}
 use Rattle.export.proofs.asked.Statement.{statement}
 use Rattle.export.proofs.asked.Tie as tie
 
@@ -18,11 +21,18 @@ new-requires c κs = search needs
 
 returns : tie.Need-returns
 unfolding askedTable
-returns c = rw (← c .before .before .before .check .ensures, c .before .checked .given .1)
+returns c =
+    let check = c .before .before .before in
+    let a = check .before .before .before .args in
+    sym (call-refused (a .intake .len) (memory (a .image .now) (a .map .now)) (sym (rw (c .before .checked .given .1) at (check .check .ensures))) _)
 
 returns-2 : tie.Need-returns-2
 unfolding askedTable
-returns-2 c = rw (← c .before .before .before .check .ensures, c .before .enum-told .given .1) (c .new .ensures)
+returns-2 c =
+    let check = c .before .before .before in
+    let a = check .before .before .before .args in
+    c .new .ensures
+    ∙ sym (call-passes (a .intake .len) (memory (a .image .now) (a .map .now)) (sym (rw (c .before .enum-told .given .1) at (check .check .ensures))) _)
 
 pub asked-spec : {M : Type 1} → statement M
 asked-spec =

@@ -1,8 +1,8 @@
--- `export::record` meets its contract: the table asked for chooses the case of `recordIn`.
+-- `export::record` meets its contract: the table asked for chooses the case of `askRecord`.
 use borrow.Author.Needs.{needs}
 use Rattle.intake.specs.Memory.{memory}
 use Rattle.export.specs.Record.{askRecord}
-use Rattle.export.proofs.Start.{asked-sound}
+use Rattle.export.proofs.AskedTable.{asked-sound}
 use Rattle.export.proofs.record.Statement.{statement}
 use Rattle.export.proofs.record.Tie as tie
 

@@ -1,10 +1,10 @@
--- `export::row_at` meets its contract: whether the place was found chooses the case of `atPlace`.
+-- `export::row_at` meets its contract: the place that the chain gives chooses the case of `atPlace`.
 use borrow.Author.Needs.{needs}
 use Rattle.export.proofs.row_at.Statement.{statement}
 use Rattle.export.proofs.row_at.Tie as tie
 
-place-in-table-requires : tie.Need-place-in-table-requires
-place-in-table-requires c κs = search needs
+row-requires : tie.Need-row-requires
+row-requires c κs = search needs
 
 enum-known-place : tie.Need-enum-known-place
 enum-known-place c = search needs
@@ -13,11 +13,17 @@ enum-told : tie.Need-enum-told
 enum-told c = search needs
 
 returns : tie.Need-returns
-returns c = rw (← c .before .before .before .place-in-table .ensures, c .before .place .given .1)
+returns c = rw (← c .before .before .before .row .ensures, c .before .place .given .1)
 
 returns-2 : tie.Need-returns-2
-returns-2 c = rw (← c .before .before .place-in-table .ensures, c .enum-told .given .1)
+returns-2 c = rw (← c .before .before .row .ensures, c .enum-told .given .1)
 
 pub row-at-spec : {M : Type 1} → statement M
 row-at-spec =
-    tie.close (tie.spec place-in-table-requires enum-known-place enum-told returns returns-2)
+    tie.close
+    (tie.spec
+    row-requires
+    enum-known-place
+    enum-told
+    returns
+    returns-2)

@@ -1,4 +1,4 @@
--- `export::row_part` meets its contract: a page of no bytes has no rows, and a row that starts past the index has no byte (proofs/RowParts).
+-- `export::row_part` meets its contract: a page of no bytes has no rows, and a row that starts past the index has no byte (proofs/RowPart).
 use mathlib.Core.Path.{sym}
 use Prim.Native.Nat.{_<_, _%_}
 use native.Mathlib.Omega.{arith}
@@ -6,8 +6,8 @@ use native.Mathlib.Nat.{le-of-lt, mod-lt}
 use lib.ListN.{drop-of-length-le}
 use borrow.Author.Needs.{needs}
 use Rattle.export.specs.Row.{rowPart}
-use Rattle.field.proofs.Part.{part-rest}
-use Rattle.export.proofs.RowParts.{part-none}
+use Rattle.lists.proofs.Part.{part-rest}
+use Rattle.export.proofs.RowPart.{part-none}
 use Rattle.export.proofs.row_part.Statement.{statement}
 use Rattle.export.proofs.row_part.Tie as tie
 

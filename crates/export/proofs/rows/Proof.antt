@@ -1,8 +1,8 @@
--- `export::rows` meets its contract: the table asked for chooses the case of `rowsOf`.
+-- `export::rows` meets its contract: the table asked for chooses the case of `askRows`.
 use borrow.Author.Needs.{needs}
 use Rattle.intake.specs.Memory.{memory}
 use Rattle.export.specs.Rows.{askRows}
-use Rattle.export.proofs.Start.{asked-sound}
+use Rattle.export.proofs.AskedTable.{asked-sound}
 use Rattle.export.proofs.rows.Statement.{statement}
 use Rattle.export.proofs.rows.Tie as tie
 

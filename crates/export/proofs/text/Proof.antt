@@ -1,8 +1,8 @@
--- `export::text` meets its contract: the table asked for chooses the case of `textIn`.
+-- `export::text` meets its contract: the table asked for chooses the case of `askText`.
 use borrow.Author.Needs.{needs}
 use Rattle.intake.specs.Memory.{memory}
 use Rattle.export.specs.Text.{askText}
-use Rattle.export.proofs.Start.{asked-sound}
+use Rattle.export.proofs.AskedTable.{asked-sound}
 use Rattle.export.proofs.text.Statement.{statement}
 use Rattle.export.proofs.text.Tie as tie
 

@@ -1,7 +1,7 @@
 -- `intake::allowed` meets its contract, test by test.
 use borrow.Author.Needs.{needs}
 use Rattle.intake.specs.Length.{allowedLength}
-use Rattle.field.proofs.Choice.{tests}
+use Rattle.lists.proofs.Choice.{tests}
 use Rattle.intake.proofs.allowed.Statement.{statement}
 use Rattle.intake.proofs.allowed.Tie as tie
 

@@ -1,6 +1,9 @@
--- `intake::check` meets its contract: the first of refusals 1 to 3, or else 4.
+-- `intake::check` meets its contract: the first of refusals 1 to 3, or else 4 (proofs/RulesPassed).
+use mathlib.Core.Path.{sym, ap, _∙_}
 use borrow.Author.Needs.{needs}
-use Rattle.intake.specs.Check.{callFault}
+use Rattle.refusal.specs.Answer.{given}
+use Rattle.intake.specs.Check.{checkedOf}
+use Rattle.intake.proofs.RulesPassed.{only-four, early-refused}
 use Rattle.intake.proofs.check.Statement.{statement}
 use Rattle.intake.proofs.check.Tie as tie
 
@@ -13,20 +16,25 @@ enum-known-refusal c = search needs
 enum-told : tie.Need-enum-told
 enum-told c = search needs
 
-spare-requires : tie.Need-spare-requires
-spare-requires c κs = search needs
+has-spare-bit-requires : tie.Need-has-spare-bit-requires
+has-spare-bit-requires c κs = search needs
 
 returns : tie.Need-returns
-unfolding callFault
-returns c = rw (← c .before .before .before .check-lengths .ensures, c .before .refusal .given .1)
+returns c =
+    let e = sym (c .before .before .before .check-lengths .ensures) ∙ ap checkedOf (c .before .refusal .given .1) in
+    sym (early-refused _ _ {A = Unit} e (given tt))
 
 returns-2 : tie.Need-returns-2
-unfolding callFault
-returns-2 c = rw (← c .before .before .before .before .check-lengths .ensures, c .before .before .enum-told .given .1, ← c .before .spare .ensures, c .if1 .taken)
+returns-2 c =
+    let told = c .before .before in
+    let e = sym (told .before .before .check-lengths .ensures) ∙ ap checkedOf (told .enum-told .given .1) in
+    rw (only-four _ _ {A = Unit} e (given tt), ← c .before .has-spare-bit .ensures, c .if1 .taken)
 
 returns-3 : tie.Need-returns-3
-unfolding callFault
-returns-3 c = rw (← c .before .before .before .before .check-lengths .ensures, c .before .before .enum-told .given .1, ← c .before .spare .ensures, c .if1 .left)
+returns-3 c =
+    let told = c .before .before in
+    let e = sym (told .before .before .check-lengths .ensures) ∙ ap checkedOf (told .enum-told .given .1) in
+    rw (only-four _ _ {A = Unit} e (given tt), ← c .before .has-spare-bit .ensures, c .if1 .left)
 
 pub check-spec : {M : Type 1} → statement M
 check-spec =
@@ -35,7 +43,7 @@ check-spec =
     check-lengths-requires
     enum-known-refusal
     enum-told
-    spare-requires
+    has-spare-bit-requires
     returns
     returns-2
     returns-3)

@@ -1,11 +1,11 @@
--- `intake::copy` meets its contract. The invariant: the first i bytes are copied, the others as before (proofs/Copying).
+-- `intake::copy` meets its contract. The invariant: the first i bytes are copied, the others as before (lists: EqualParts).
 use mathlib.Core.Path.{_≡_, refl}
 use mathlib.Core.List.{_++_, append-nil}
 use Prim.Native.Nat.{_-_, _≤_, _<_}
 use native.Mathlib.Omega.{arith}
 use lib.ListN.{length, drop, take, length-set, drop-of-length-le}
 use lib.Seq.{take-length}
-use Rattle.intake.proofs.Copying.{copy-more}
+use Rattle.lists.proofs.EqualParts.{copy-more}
 use Rattle.intake.proofs.copy.Statement.{statement}
 use Rattle.intake.proofs.copy.Tie as tie
 
@@ -37,7 +37,7 @@ loop-again c =
       turn .loop .inv .0,
       simp length-set (turn .loop .inv .1),
       omega arith,
-      rw (turn .loop .inv .3) (copy-more (turn .before .args .into .now) (turn .before .args .from .now) (turn .loop .i) h (c .before .loop-test .taken)),
+      rw (turn .loop .inv .3) (copy-more 0 (turn .before .args .into .now) (turn .before .args .from .now) (turn .loop .i) h (c .before .loop-test .taken)),
     )
 
 same-length : tie.Need-same-length Inv-loop μ-loop

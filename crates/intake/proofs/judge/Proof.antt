@@ -1,9 +1,8 @@
--- `intake::judge` meets its contract: refusals 1 to 4 first (proofs/Delivering).
+-- `intake::judge` meets its contract: refusals 1 to 4 first (proofs/Verdict).
 use mathlib.Core.Path.{sym, ap, _∙_}
 use borrow.Author.Needs.{needs}
-use Rattle.intake.specs.Check.{checkedAs}
-use Rattle.intake.specs.Deliver.{Outcome}
-use Rattle.intake.proofs.Delivering.{call-refused}
+use Rattle.intake.specs.Check.{checkedOf}
+use Rattle.intake.proofs.Verdict.{call-refuses}
 use Rattle.intake.proofs.judge.Statement.{statement}
 use Rattle.intake.proofs.judge.Tie as tie
 
@@ -17,10 +16,10 @@ enum-told : tie.Need-enum-told
 enum-told c = search needs
 
 judge-block-requires : tie.Need-judge-block-requires
-judge-block-requires c κs = sym (c .before .before .check .ensures) ∙ ap checkedAs (c .enum-told .given .1)
+judge-block-requires c κs = sym (c .before .before .check .ensures) ∙ ap checkedOf (c .enum-told .given .1)
 
 returns : tie.Need-returns
-returns c = sym (ap (λ (o : Outcome). o .answer) (call-refused _ _ _ _ (sym (c .before .before .before .check .ensures) ∙ ap checkedAs (c .before .refusal .given .1))))
+returns c = sym (call-refuses _ _ _ _ (sym (c .before .before .before .check .ensures) ∙ ap checkedOf (c .before .refusal .given .1)))
 
 returns-2 : tie.Need-returns-2
 returns-2 c = search needs

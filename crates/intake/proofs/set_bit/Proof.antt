@@ -1,12 +1,12 @@
--- `intake::set_bit` meets its contract: the shifted 1 fits 64 bits, and past the map's end there is nothing to set (proofs/Bit).
+-- `intake::set_bit` meets its contract: the shifted 1 fits 64 bits, and past the map's end there is nothing to set (bitmap: BitSet).
 use mathlib.Core.Path.{sym}
 use Prim.Native.Nat.{_%_}
 use native.Mathlib.Omega.{arith}
 use native.Mathlib.Nat.{one-mul}
 use lib.Pow.{shl-exact}
 use borrow.Author.Needs.{needs}
-use Rattle.intake.specs.Bit.{withBit}
-use Rattle.intake.proofs.Bit.{set-past}
+use Rattle.bitmap.specs.Bit.{withBit}
+use Rattle.bitmap.proofs.BitSet.{set-past}
 use Rattle.intake.proofs.set_bit.Statement.{statement}
 use Rattle.intake.proofs.set_bit.Tie as tie
 

@@ -1,7 +1,7 @@
--- `intake::store` meets its contract: the borrowed part comes back with the piece in it (proofs/Image).
+-- `intake::store` meets its contract: the borrowed part comes back with the piece in it (proofs/BlockBytes).
 use borrow.Author.Needs.{needs}
 use Rattle.intake.specs.Deliver.{stored}
-use Rattle.intake.proofs.Image.{put-block}
+use Rattle.intake.proofs.BlockBytes.{put-block}
 use Rattle.intake.proofs.store.Statement.{statement}
 use Rattle.intake.proofs.store.Tie as tie
 
@@ -36,7 +36,8 @@ returns : tie.Need-returns
 unfolding stored
 returns c =
     let at = c .before .before .before .before .before .before .before .before .before .before .before in
-    rw (c .before .before .set-bit .ensures, c .before .before .before .before .before .before .copy .ensures, put-block (at .args .image .now) (at .args .block) (at .args .piece .now))
+    let copied = c .before .before .before .before .before .before in
+    rw (c .before .before .set-bit .ensures, copied .copy .ensures, put-block (at .args .image .now) (at .args .block) (at .args .piece .now))
 
 pub store-spec : {M : Type 1} → statement M
 store-spec =

@@ -3,29 +3,29 @@ use mathlib.Core.Path.{_∙_}
 use native.Mathlib.Nat.{le-of-lt}
 use lib.ListN.{drop-of-length-le}
 use borrow.Author.Needs.{needs}
-use Rattle.row.proofs.Laws.{empty-row}
-use Rattle.field.proofs.Part.{part-rest}
+use Rattle.row.proofs.GoodRow.{empty-row}
+use Rattle.lists.proofs.Part.{part-rest}
 use Rattle.page.proofs.check_at.Statement.{statement}
 use Rattle.page.proofs.check_at.Tie as tie
 
 returns : tie.Need-returns
 returns c = rw (drop-of-length-le (c .before .before .args .rows .now) (le-of-lt (c .if1 .taken)), empty-row (c .before .before .args .table))
 
-sub-check : tie.Need-sub-check
-sub-check c = search needs
+sub-check-row : tie.Need-sub-check-row
+sub-check-row c = search needs
 
-part-check-start : tie.Need-part-check-start
-part-check-start c = search needs
+part-check-row-start : tie.Need-part-check-row-start
+part-check-row-start c = search needs
 
-part-check-end : tie.Need-part-check-end
-part-check-end c = search needs
+part-check-row-end : tie.Need-part-check-row-end
+part-check-row-end c = search needs
 
-check-requires : tie.Need-check-requires
-check-requires c κs = search needs
+check-row-requires : tie.Need-check-row-requires
+check-row-requires c κs = search needs
 
 returns-2 : tie.Need-returns-2
-returns-2 c = c .check .ensures ∙ rw part-rest
+returns-2 c = c .check-row .ensures ∙ rw part-rest
 
 pub check-at-spec : {M : Type 1} → statement M
 check-at-spec =
-    tie.close (tie.spec returns sub-check part-check-start part-check-end check-requires returns-2)
+    tie.close (tie.spec returns sub-check-row part-check-row-start part-check-row-end check-row-requires returns-2)

@@ -1,7 +1,7 @@
 -- `page::entry_count` meets its contract: the tests of the two counts choose the case of `entryCount`.
 use borrow.Author.Needs.{needs}
 use Rattle.page.specs.Header.{entries}
-use Rattle.field.proofs.Choice.{tests}
+use Rattle.lists.proofs.Choice.{tests}
 use Rattle.page.proofs.entry_count.Statement.{statement}
 use Rattle.page.proofs.entry_count.Tie as tie
 

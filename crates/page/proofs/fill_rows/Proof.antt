@@ -1,11 +1,11 @@
--- `page::fill_rows` meets its contract, by the loop's invariant `Filling` (proofs/Places).
+-- `page::fill_rows` meets its contract, by the loop's invariant `Filling` (proofs/FillLoop).
 use mathlib.Core.Path.{sym, _∙_}
 use mathlib.Core.Logic.{⊎-elim}
 use Prim.Native.Nat.{_-_}
 use native.Mathlib.Omega.{arith}
 use borrow.Author.Needs.{needs}
-use Rattle.page.proofs.Index.{entry-room}
-use Rattle.page.proofs.Places.{Filling, begin, absent, next, end}
+use Rattle.page.proofs.EntriesInside.{entry-room}
+use Rattle.page.proofs.FillLoop.{Filling, begin, absent, next, end}
 use Rattle.page.proofs.fill_rows.Statement.{statement}
 use Rattle.page.proofs.fill_rows.Tie as tie
 

@@ -1,11 +1,11 @@
--- `page::find_row` meets its contract, by the loop's invariant `Finding` (proofs/Finding).
+-- `page::find_row` meets its contract, by the loop's invariant `Finding` (proofs/RowLoop).
 use mathlib.Core.Path.{sym, _∙_}
 use mathlib.Core.Logic.{⊎-elim}
 use Prim.Native.Nat.{_-_}
 use native.Mathlib.Omega.{arith}
 use borrow.Author.Needs.{needs}
-use Rattle.page.proofs.Index.{entry-room}
-use Rattle.page.proofs.Finding.{Finding, begin, absent, next, here, end}
+use Rattle.page.proofs.EntriesInside.{entry-room}
+use Rattle.page.proofs.RowLoop.{Finding, begin, absent, next, here, end}
 use Rattle.page.proofs.find_row.Statement.{statement}
 use Rattle.page.proofs.find_row.Tie as tie
 
@@ -28,7 +28,9 @@ returns : tie.Need-returns Inv-loop μ-loop
 returns c =
     let test = c .before .before in
     let turn = test .before .before in
-    (here (turn .before .loop .inv) (turn .loop-test .taken) (sym (test .before .is-present .ensures) ∙ test .if1 .taken) (c .row-start .ensures .0) (c .before .if2 .taken), c .row-start .ensures .1)
+    let start = c .row-start .ensures in
+    let present = sym (test .before .is-present .ensures) ∙ test .if1 .taken in
+    (here (turn .before .loop .inv) (turn .loop-test .taken) present (start .0) (c .before .if2 .taken), start .1)
 
 add-found : tie.Need-add-found Inv-loop μ-loop
 add-found c = search needs

@@ -1,7 +1,7 @@
 -- `page::header_agrees` meets its contract: the numbers that the calls read are page_index and type.
 use borrow.Author.Needs.{needs}
 use Rattle.page.specs.Header.{headerAgrees}
-use Rattle.field.proofs.Choice.{tests}
+use Rattle.lists.proofs.Choice.{tests}
 use Rattle.page.proofs.header_agrees.Statement.{statement}
 use Rattle.page.proofs.header_agrees.Tie as tie
 

@@ -1,11 +1,11 @@
--- `page::read_rows` meets its contract, by the loop's invariant `Reading` (proofs/Entries).
+-- `page::read_rows` meets its contract, by the loop's invariant `Reading` (proofs/ReadLoop).
 use mathlib.Core.Path.{sym, _∙_}
 use mathlib.Core.Logic.{⊎-elim}
 use Prim.Native.Nat.{_-_}
 use native.Mathlib.Omega.{arith}
 use borrow.Author.Needs.{needs}
-use Rattle.page.proofs.Index.{entry-room}
-use Rattle.page.proofs.Entries.{Reading, begin, end, absent, good, row-fault, text-fault}
+use Rattle.page.proofs.EntriesInside.{entry-room}
+use Rattle.page.proofs.ReadLoop.{Reading, begin, end, absent, good, row-fault, text-fault}
 use Rattle.page.proofs.read_rows.Statement.{statement}
 use Rattle.page.proofs.read_rows.Tie as tie
 
@@ -40,18 +40,22 @@ enum-told-2 c = search needs
 
 returns : tie.Need-returns Inv-loop μ-loop
 returns c =
-    let test = c .before .before .before .before in
+    let check = c .before .before in
+    let test = check .before .before in
     let turn = test .before .before in
-    row-fault (turn .before .loop .inv) (turn .loop-test .taken) (sym (test .before .is-present .ensures) ∙ test .if1 .taken) (c .before .before .before .row-start .ensures .0) (c .before .before .check-at .ensures) (c .enum-told2 .given .1)
+    row-fault (turn .before .loop .inv) (turn .loop-test .taken) (sym (test .before .is-present .ensures) ∙ test .if1 .taken)
+    (check .before .row-start .ensures .0) (c .enum-told2 .given .1) (check .check-at .ensures)
 
 enum-told-3 : tie.Need-enum-told-3 Inv-loop μ-loop
 enum-told-3 c = search needs
 
 returns-2 : tie.Need-returns-2 Inv-loop μ-loop
 returns-2 c =
-    let test = c .before .before .before .before in
+    let check = c .before .before in
+    let test = check .before .before in
     let turn = test .before .before in
-    text-fault (turn .before .loop .inv) (turn .loop-test .taken) (sym (test .before .is-present .ensures) ∙ test .if1 .taken) (c .before .before .before .row-start .ensures .0) (c .before .before .check-at .ensures) (c .enum-told3 .given .1)
+    text-fault (turn .before .loop .inv) (turn .loop-test .taken) (sym (test .before .is-present .ensures) ∙ test .if1 .taken)
+    (check .before .row-start .ensures .0) (c .enum-told3 .given .1) (check .check-at .ensures)
 
 add-i : tie.Need-add-i Inv-loop μ-loop
 add-i c = search needs
@@ -64,7 +68,7 @@ loop-again c =
     let turn = c .before .before in
     let inv = turn .before .loop .inv in
     let told = c .before .is-present .ensures in
-    ⊎-elim (λ w. rw (w .5) (good inv (turn .loop-test .taken) (sym told ∙ w .0 .taken) (w .1 .ensures .0) (w .2 .ensures) (w .4 .given .1)))
+    ⊎-elim (λ w. rw (w .5) (good inv (turn .loop-test .taken) (sym told ∙ w .0 .taken) (w .1 .ensures .0) (w .4 .given .1) (w .2 .ensures)))
     (λ w. rw (w .1) (absent inv (turn .loop-test .taken) (sym told ∙ w .0 .left)))
     (c .if1 .came)
 

@@ -1,7 +1,7 @@
 -- `row::artist_layout` meets its contract: the test for `0a` bytes and the subtype choose the case of `artistLayout`.
 use borrow.Author.Needs.{needs}
 use Rattle.row.specs.Layout.{artistLayout}
-use Rattle.field.proofs.Choice.{tests}
+use Rattle.lists.proofs.Choice.{tests}
 use Rattle.row.proofs.artist_layout.Statement.{statement}
 use Rattle.row.proofs.artist_layout.Tie as tie
 

@@ -11,7 +11,7 @@ impl Target<'_> {
     }
 
     pub fn len_page_field(&mut self) {
-        let len_page = self.len_page() as u32;
+        let len_page = self.layout().len_page() as u32;
         let values = [
             0,
             256,
@@ -30,7 +30,7 @@ impl Target<'_> {
     }
 
     pub fn num_tables_field(&mut self) {
-        let pointers = self.pointers();
+        let pointers = self.layout().pointers();
         let values = [0, 1, pointers - 1, pointers + 1, 30, 31, 256, u32::MAX];
         let value = self.rng.pick(&values);
         self.put(0x08, &value.to_le_bytes());
@@ -39,7 +39,7 @@ impl Target<'_> {
     /// A type that no pointer has.
     pub fn pointer_type(&mut self) {
         let at = self.pointer();
-        let pointers = 0x1c..0x1c + 16 * self.pointers() as usize;
+        let pointers = 0x1c..0x1c + 16 * self.layout().pointers() as usize;
         let types: Vec<u32> = pointers
             .step_by(16)
             .map(|at| u32_at(self.bytes, at))
@@ -62,7 +62,7 @@ impl Target<'_> {
 
     /// A link that is another than `old`, mostly near an end of the pages.
     pub fn any_link(&mut self, old: u32) -> u32 {
-        let pages = self.pages();
+        let pages = self.layout().pages();
         let inside = self.rng.below(u64::from(pages)) as u32;
         let far = self.rng.next_u64() as u32;
         let links = [
@@ -78,6 +78,28 @@ impl Target<'_> {
             u32::MAX,
         ];
         self.rng.pick(&links)
+    }
+
+    /// A bit above the lowest byte of a four-byte number, above the lowest two
+    /// of len_page.
+    pub fn high_byte(&mut self) {
+        let number = match self.rng.below(8) {
+            0 => Some(0x04),
+            1 => Some(0x08),
+            2 => Some(self.pointer()),
+            3 => Some(self.pointer() + 0x08),
+            4 => Some(self.pointer() + 0x0c),
+            _ => {
+                let field = self.rng.pick(&[0x04, 0x08, 0x0c]);
+                self.page().map(|page| page + field)
+            }
+        };
+        if let Some(at) = number {
+            let lowest = if at == 0x04 { 16 } else { 8 };
+            let bit = lowest + self.rng.below(32 - lowest);
+            let value = u32_at(self.bytes, at) ^ 1 << bit;
+            self.put(at, &value.to_le_bytes());
+        }
     }
 
     pub fn any_bytes(&mut self) {

@@ -5,6 +5,7 @@ mod pages;
 mod rows;
 mod target;
 
+use crate::layout::Layout;
 use crate::rng::Rng;
 use target::Target;
 
@@ -53,6 +54,8 @@ pub enum Kind {
     StringHead,
     /// A string that ends near the index.
     StringAtEnd,
+    /// A byte above the lowest of a four-byte number of a header or pointer.
+    HighByte,
     /// Some bytes anywhere.
     Bytes,
     /// Some blocks become zero.
@@ -61,7 +64,7 @@ pub enum Kind {
 
 impl Kind {
     /// All kinds.
-    pub const ALL: [Kind; 23] = [
+    pub const ALL: [Kind; 24] = [
         Kind::FirstBytes,
         Kind::LenPage,
         Kind::NumTables,
@@ -83,6 +86,7 @@ impl Kind {
         Kind::StringOffset,
         Kind::StringHead,
         Kind::StringAtEnd,
+        Kind::HighByte,
         Kind::Bytes,
         Kind::Blocks,
     ];
@@ -120,12 +124,13 @@ impl Kind {
 /// ```
 pub fn damage(export: &[u8], rng: &mut Rng) -> Vec<u8> {
     let mut bytes = export.to_vec();
-    let tables = Target::new(&mut bytes, rng).table_pointers().len().max(1) as u64;
-    let (kinds, most) = match rng.below(16) {
+    let tables = Layout::new(export).table_pointers().len().max(1) as u64;
+    let (kinds, most) = match rng.below(18) {
         0 => (Kind::of_header(), 1),
         1..4 => (Kind::of_links(), tables.div_ceil(2)),
         4..6 => (Kind::of_counts(), tables.div_ceil(2)),
         6..14 => (Kind::of_rows(), tables),
+        14..16 => (&[Kind::HighByte][..], 1),
         _ => (&Kind::ALL[..], tables),
     };
     for _ in 0..1 + rng.below(most) {
@@ -168,6 +173,7 @@ pub fn apply(kind: Kind, export: &mut [u8], rng: &mut Rng) {
         Kind::StringOffset => target.string_offset(),
         Kind::StringHead => target.string_head(),
         Kind::StringAtEnd => target.string_at_end(),
+        Kind::HighByte => target.high_byte(),
         Kind::Bytes => target.any_bytes(),
         Kind::Blocks => target.any_blocks(),
     }

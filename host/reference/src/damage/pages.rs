@@ -1,8 +1,15 @@
 //! Page headers and presence flags.
 
 use super::target::Target;
-use crate::model::bytes::u32_at;
-use crate::model::{index_size, PAGE_HEADER};
+use crate::model::bytes::{u16_at, u32_at};
+use crate::model::{entries, index_size, PAGE_HEADER};
+
+/// The fewest entries whose index is longer than `size`.
+fn count_past(size: usize) -> u16 {
+    (0..u16::MAX)
+        .find(|count| index_size(usize::from(*count)) > size)
+        .unwrap_or(u16::MAX)
+}
 
 impl Target<'_> {
     /// page_index or next_page.
@@ -23,14 +30,17 @@ impl Target<'_> {
     /// The last page of the loop is no longer the last of the chain.
     pub fn loop_in_chain(&mut self) {
         let pointer = self.pointer();
-        let chain = self.chain(pointer);
+        let chain = self.layout().chain(pointer);
         if chain.is_empty() {
             return;
         }
         let looped = &chain[..1 + self.rng.index(chain.len())];
         let end = looped[looped.len() - 1];
         let next_page = self.rng.pick(looped);
-        self.put(self.page_start(end) + 0x0c, &next_page.to_le_bytes());
+        self.put(
+            self.layout().page_start(end) + 0x0c,
+            &next_page.to_le_bytes(),
+        );
         if u32_at(self.bytes, pointer + 0x0c) == end {
             let last_page = self.any_link(end);
             self.put(pointer + 0x0c, &last_page.to_le_bytes());
@@ -46,14 +56,17 @@ impl Target<'_> {
         }
     }
 
-    /// Among others counts near the most that a page of this length can index.
+    /// Among others counts near the most that a page of this length can index,
+    /// counts whose index just passes a power of two, and the count with a high
+    /// bit set.
     pub fn num_rows_large(&mut self) {
         if let Some(page) = self.page() {
             let any = self.rng.next_u64() as u16;
             let small = u16::from(self.bytes[page + 0x18]);
-            let room = self.len_page() - PAGE_HEADER;
-            let too_many = (0..).find(|n| index_size(usize::from(*n)) > room);
-            let too_many = too_many.unwrap_or(u16::MAX);
+            let large = u16_at(self.bytes, page + 0x22);
+            let too_many = count_past(self.layout().len_page() - PAGE_HEADER);
+            let power = 1 << (15 + self.rng.below(3));
+            let past_power = count_past(power) + self.rng.below(16) as u16;
             let values = [
                 any,
                 any % 512,
@@ -63,6 +76,9 @@ impl Target<'_> {
                 0xffff,
                 too_many - 1,
                 too_many,
+                past_power,
+                past_power,
+                entries(small as u8, large) | 1 << (13 + self.rng.below(3)),
             ];
             let value = self.rng.pick(&values);
             self.put(page + 0x22, &value.to_le_bytes());

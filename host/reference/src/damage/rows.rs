@@ -1,7 +1,8 @@
 //! Rows and strings.
 
 use super::target::{Row, Target};
-use crate::model::Table;
+use crate::model::bytes::u16_at;
+use crate::model::{Table, PAGE_HEADER};
 
 /// Heads of strings, as their first byte.
 const HEADS: [u8; 11] = [
@@ -34,7 +35,9 @@ impl Target<'_> {
     pub fn row_offset(&mut self) {
         if let Some(row) = self.row() {
             let any = self.rng.next_u64() as u16;
-            let value = self.rng.pick(&[any % 512, any]);
+            let near_top = u16::MAX - self.rng.below(PAGE_HEADER as u64) as u16;
+            let top_bit = u16_at(self.bytes, row.offset_at) ^ 0x8000;
+            let value = self.rng.pick(&[any % 512, any, near_top, top_bit]);
             self.put(row.offset_at, &value.to_le_bytes());
         }
     }
@@ -68,7 +71,15 @@ impl Target<'_> {
         if let Some((at, width)) = self.string_offset_at(&row) {
             let near_end = row.heap.end.saturating_sub(row.start + self.rng.index(6)) as u16;
             let any = self.rng.next_u64() as u16;
-            let values = [0, near_end, near_end.wrapping_add(1), any % 256, any];
+            let top_bit = self.bytes.get(at..at + 2).map_or(0, |old| u16_at(old, 0)) ^ 0x8000;
+            let values = [
+                0,
+                near_end,
+                near_end.wrapping_add(1),
+                any % 256,
+                any,
+                top_bit,
+            ];
             let value = self.rng.pick(&values);
             self.put(at, &value.to_le_bytes()[..width]);
         }
@@ -104,14 +115,21 @@ impl Target<'_> {
     fn string_near(&mut self, to_index: usize) -> Vec<u8> {
         let near = (to_index + 1).saturating_sub(self.rng.index(3)) as u16;
         let any = self.rng.next_u64() as u16;
-        let total = self.rng.pick(&[near, near, near, 3, 4, 5, any]);
+        let top_bit = near | 0x8000;
+        let total = self.rng.pick(&[near, near, near, top_bit, 3, 4, 5, any]);
         let [low, high] = total.to_le_bytes();
-        match self.rng.below(4) {
+        match self.rng.below(5) {
             0 => vec![(total << 1 | 1) as u8],
             1 => vec![0x40, low, high],
             2 => vec![0x90, low, high],
+            3 => vec![self.even_head(), low, high],
             _ => vec![self.rng.pick(&HEADS), low, high],
         }
+    }
+
+    /// An even byte that differs from `40` or `90` in one bit, mostly a low one.
+    fn even_head(&mut self) -> u8 {
+        self.rng.pick(&[0x40, 0x90, 0x90]) ^ 2 << self.rng.pick(&[0, 0, 0, 1, 2, 3, 4, 5, 6])
     }
 
     /// Puts what lies in the heap.

@@ -112,7 +112,7 @@ fn put_name_behind_gap(
 }
 
 /// Equal strings stand once; an empty one may stand in the row's first
-/// byte, which has no name in document 01.
+/// byte, which no rule names.
 fn put_track_strings(chunk: &mut Chunk, texts: &[Text], options: &Options, rng: &mut Rng) {
     let mut seen: Vec<(&Text, usize)> = Vec::new();
     let empty = Text::of("");

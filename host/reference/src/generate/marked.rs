@@ -28,6 +28,11 @@ impl MarkedBytes {
         self.put(at, &value.to_le_bytes());
     }
 
+    /// Writes bytes without putting them.
+    pub fn fill(&mut self, at: usize, bytes: &[u8]) {
+        self.bytes[at..at + bytes.len()].copy_from_slice(bytes);
+    }
+
     /// Copies bytes without putting them.
     pub fn copy(&mut self, from: Range<usize>, to: usize) {
         self.bytes.copy_within(from, to);

@@ -1,6 +1,6 @@
 //! Valid exports, with a description of what a reader finds in them.
 //!
-//! An export is written by putting only what document 01 names; every other
+//! An export is written by putting only what the rules name; every other
 //! byte keeps what it was filled with, which is random unless the export is
 //! tidy. So the bytes that no answer may depend on are known.
 
@@ -18,7 +18,7 @@ use std::ops::Range;
 use crate::model::{Encoding, Table};
 use crate::rng::Rng;
 
-pub use options::Options;
+pub use options::{Large, Options};
 
 /// A generated file and what a reader finds in it.
 #[derive(Clone, Debug)]
@@ -45,7 +45,7 @@ pub struct Expected {
     /// The tables that have a pointer.
     pub tables: Vec<ExpectedTable>,
     /// The bytes that no answer depends on: of absent rows, pads, gaps, fields
-    /// that document 01 does not name, and pages off the chains.
+    /// that no rule names, and pages off the chains.
     pub free: Vec<Range<usize>>,
 }
 
@@ -65,7 +65,7 @@ pub struct ExpectedTable {
 pub struct ExpectedRow {
     /// The row's absolute byte offset.
     pub place: u32,
-    /// The record's numbers in the order of document 01.
+    /// The record's numbers, in the order of rule 5.16.
     pub numbers: Vec<u64>,
     /// Its strings, slot by slot.
     pub texts: Vec<ExpectedText>,
@@ -106,7 +106,7 @@ pub fn export(options: &Options) -> Export {
 }
 
 /// A small export with made-up names: three playlists in a folder and 24
-/// tracks. It is at most 32,768 bytes, the image of document 01's desk program.
+/// tracks. It is at most 32,768 bytes, the image of the desk program (rule 9.6).
 ///
 /// ```
 /// let file = sarvoltig_reference::generate::demo();

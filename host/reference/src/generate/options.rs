@@ -3,6 +3,17 @@
 use crate::model::{Table, BLOCK_SIZE};
 use crate::rng::Rng;
 
+/// What is large in a large file.
+#[derive(Clone, Copy, Debug, PartialEq, Eq)]
+pub enum Large {
+    /// A chain has hundreds of pages.
+    Chain,
+    /// A table has thousands of rows.
+    Rows,
+    /// The file has megabytes, most of them off the chains.
+    File,
+}
+
 /// What a generated export is like.
 ///
 /// ```
@@ -30,9 +41,13 @@ pub struct Options {
     pub min_pages: u32,
     /// The longest text of a random string, in bytes.
     pub longest_text: usize,
+    /// The most entries of a page.
+    pub most_entries: usize,
     /// Whether pages stand in random order.
     pub shuffled: bool,
-    /// Whether bytes that document 01 does not name are zero, rows stand side
+    /// Whether the chains stand at the end of the file.
+    pub at_end: bool,
+    /// Whether bytes that no rule names are zero, rows stand side
     /// by side in the order of the index, and pages are filled.
     pub tidy: bool,
 }
@@ -48,7 +63,9 @@ impl Default for Options {
             spare_pages: 2,
             min_pages: 0,
             longest_text: 200,
+            most_entries: usize::MAX,
             shuffled: true,
+            at_end: false,
             tidy: false,
         }
     }
@@ -111,8 +128,89 @@ impl Options {
             longest_text: rng.pick(&[10, 60, 400, 4000]),
             shuffled: rng.chance(7, 8),
             tidy: rng.chance(1, 16),
+            ..Options::default()
         }
     }
+
+    /// A large file: one with a long chain, one with many rows, or a long one.
+    ///
+    /// ```
+    /// use sarvoltig_reference::{generate::{export, Large, Options}, rng::Rng};
+    ///
+    /// let options = Options::large(Large::Chain, &mut Rng::new(1));
+    /// assert!(export(&options).expected.tables[0].pages > 256);
+    /// ```
+    pub fn large(large: Large, rng: &mut Rng) -> Self {
+        match large {
+            Large::Chain => Options::long_chain(rng),
+            Large::Rows => Options::many_rows(rng),
+            Large::File => Options::long_file(rng),
+        }
+    }
+
+    /// A chain of more than 256 pages, one of three of more than 1,000.
+    fn long_chain(rng: &mut Rng) -> Self {
+        let pages = rng.pick(&[260, 260, 1010]) + rng.below(100) as u32;
+        Options {
+            len_page: 512 * rng.pick(&[1, 1, 1, 2]),
+            rows: one_table(rng.pick(&Table::ALL), pages),
+            strange: rng.pick(&[0, 10]),
+            longest_text: 20,
+            most_entries: 1,
+            ..Options::seeded(rng)
+        }
+    }
+
+    /// More than 2,000 rows of one table, one of four times more than 65,536.
+    fn many_rows(rng: &mut Rng) -> Self {
+        let longest = rng.chance(1, 4);
+        let table = match longest || rng.chance(1, 2) {
+            true => Table::PlaylistEntries,
+            false => rng.pick(&[Table::Genres, Table::Keys, Table::Colors, Table::Artwork]),
+        };
+        let rows = match longest {
+            true => 65_537 + rng.below(3000) as u32,
+            false => 2001 + rng.below(3000) as u32,
+        };
+        Options {
+            len_page: 512 * rng.pick(&[64, 64, 16]),
+            rows: one_table(table, rows),
+            absent: rng.pick(&[0, 10]),
+            longest_text: 4,
+            ..Options::seeded(rng)
+        }
+    }
+
+    /// A file past 1, 8, 16 or 32 MiB with short chains.
+    fn long_file(rng: &mut Rng) -> Self {
+        let megabytes = rng.pick(&[1, 1, 1, 8, 8, 16, 32]);
+        let len = (megabytes << 20) + rng.below(1 << 20);
+        let len_page = BLOCK_SIZE as u64 * rng.pick(&[1, 1, 2, 7, 64]);
+        let mut rows = [None; 10];
+        for _ in 0..3 {
+            rows[rng.index(10)] = Some(rng.below(12) as u32);
+        }
+        Options {
+            len_page: len_page as u32,
+            rows,
+            min_pages: len.div_ceil(len_page) as u32 + 1,
+            longest_text: 100,
+            most_entries: rng.pick(&[2, 40]),
+            at_end: rng.chance(3, 4),
+            ..Options::seeded(rng)
+        }
+    }
+
+    fn seeded(rng: &mut Rng) -> Self {
+        Options {
+            seed: rng.next_u64(),
+            ..Options::default()
+        }
+    }
+}
+
+fn one_table(table: Table, rows: u32) -> [Option<u32>; 10] {
+    Table::ALL.map(|other| (other == table).then_some(rows))
 }
 
 /// Few tables when pages are long, and rows for a few pages.

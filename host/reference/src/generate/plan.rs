@@ -26,19 +26,22 @@ pub(super) struct Page {
     pub strange: bool,
     pub entries: Vec<Entry>,
     most_entries: usize,
+    /// Bytes of the heap that the entries take.
+    heap: usize,
 }
 
 impl Page {
     /// A page that is sometimes closed before it is full.
     fn data(options: &Options, rng: &mut Rng) -> Self {
         let most_entries = match options.tidy || rng.chance(2, 3) {
-            true => MOST_ENTRIES,
-            false => 1 + rng.index(40),
+            true => options.most_entries.min(MOST_ENTRIES),
+            false => 1 + rng.index(options.most_entries.min(40)),
         };
         Page {
             strange: false,
             entries: Vec::new(),
             most_entries,
+            heap: 0,
         }
     }
 
@@ -47,19 +50,20 @@ impl Page {
             strange: true,
             entries: Vec::new(),
             most_entries: 0,
+            heap: 0,
         }
     }
 
     fn fits(&self, entry: &Entry, options: &Options) -> bool {
-        let heap: usize = self
-            .entries
-            .iter()
-            .chain([entry])
-            .map(|entry| entry.gap + entry.len)
-            .sum();
+        let heap = self.heap + entry.gap + entry.len;
         let entries = self.entries.len() + 1;
         entries <= self.most_entries
             && PAGE_HEADER + heap + index_size(entries) <= options.len_page as usize
+    }
+
+    fn push(&mut self, entry: Entry) {
+        self.heap += entry.gap + entry.len;
+        self.entries.push(entry);
     }
 }
 
@@ -75,7 +79,7 @@ pub(super) fn chain(table: Table, rows: Vec<Row>, options: &Options, rng: &mut R
                 row: None,
             };
             if page.fits(&absent, options) {
-                page.entries.push(absent);
+                page.push(absent);
             }
         }
         let mut entry = row_entry(table, row, options, rng);
@@ -83,7 +87,7 @@ pub(super) fn chain(table: Table, rows: Vec<Row>, options: &Options, rng: &mut R
             pages.push(mem::replace(&mut page, Page::data(options, rng)));
             entry.gap = 0;
         }
-        page.entries.push(entry);
+        page.push(entry);
     }
     pages.push(page);
     with_strange_pages(pages, options, rng)

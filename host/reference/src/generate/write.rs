@@ -8,7 +8,7 @@ use super::{Expected, ExpectedRow, ExpectedTable, ExpectedText, Export, Options}
 use crate::model::{Table, GROUP_SIZE, PAGE_HEADER};
 use crate::rng::Rng;
 
-/// "num_tables at `08` from 1 to 30"
+/// The most that num_tables may be (rule 3.6).
 const MOST_POINTERS: usize = 30;
 
 struct Pointer {
@@ -17,17 +17,22 @@ struct Pointer {
     pages: Option<(u32, u32)>,
 }
 
-/// Pointers of types that are not read.
-fn pointers_of_other_types(count: usize) -> impl Iterator<Item = Pointer> {
-    [u32::MAX]
-        .into_iter()
-        .chain(0..)
-        .filter(|table_type| Table::of_type(*table_type).is_none())
-        .take(count)
-        .map(|table_type| Pointer {
-            table_type,
-            pages: None,
-        })
+/// Pointers of types that are not read. Many have the low byte of another type,
+/// also of one that is read.
+fn pointers_of_other_types(count: usize, rng: &mut Rng) -> Vec<Pointer> {
+    let mut types = vec![u32::MAX];
+    let mut low = 0;
+    while types.len() < count {
+        if Table::of_type(low).is_none() {
+            types.push(low);
+        }
+        types.push(low | 1 << (8 + rng.below(24)));
+        low += 1;
+    }
+    types.truncate(count);
+    let pages = None;
+    let pointer = |table_type| Pointer { table_type, pages };
+    types.into_iter().map(pointer).collect()
 }
 
 struct Writer<'a> {
@@ -44,7 +49,11 @@ pub(super) fn export(tables: Tables, options: &Options, rng: &mut Rng) -> Export
     let chained: usize = chains.iter().map(|(_, pages)| pages.len()).sum();
     let pages = (1 + chained as u32 + options.spare_pages).max(options.min_pages);
     let mut numbers: Vec<u32> = (1..pages).collect();
-    if options.shuffled {
+    if options.at_end {
+        numbers.reverse();
+        let near_end = numbers.len().min(2 * chained);
+        rng.shuffle(&mut numbers[..near_end]);
+    } else if options.shuffled {
         rng.shuffle(&mut numbers);
     }
     let len = pages as usize * options.len_page as usize;
@@ -108,7 +117,7 @@ impl Writer<'_> {
                 0 => most,
                 _ => 1 + self.rng.index(8),
             };
-            pointers.extend(pointers_of_other_types(others));
+            pointers.extend(pointers_of_other_types(others, self.rng));
             self.rng.shuffle(&mut pointers);
         }
         self.file.put_u32(0x00, 0);
@@ -128,6 +137,9 @@ impl Writer<'_> {
         let mut rows = Vec::new();
         for (place, page) in pages.iter().enumerate() {
             self.put_page_header(table, page, numbers[place], numbers.get(place + 1));
+            if place + 1 == pages.len() {
+                self.link_back(numbers);
+            }
             let start = self.page_start(numbers[place]);
             let offsets = self.offsets(&page.entries);
             self.put_index(start, &page.entries, &offsets);
@@ -162,6 +174,17 @@ impl Writer<'_> {
             self.file.put(start + 0x18, &[num_rows_small]);
             self.file.put_u16(start + 0x22, num_rows_large);
         }
+    }
+
+    /// next_page of a last page, which no rule looks at, may name a page of its
+    /// own chain (rule 4.7).
+    fn link_back(&mut self, numbers: &[u32]) {
+        if self.options.tidy || self.rng.chance(1, 2) {
+            return;
+        }
+        let next_page = self.rng.pick(numbers);
+        let last_page = self.page_start(numbers[numbers.len() - 1]);
+        self.file.fill(last_page + 0x0c, &next_page.to_le_bytes());
     }
 
     fn page_flags(&mut self, strange: bool) -> u8 {

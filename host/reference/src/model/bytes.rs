@@ -1,4 +1,4 @@
-//! "Numbers in export.pdb are little-endian."
+//! Little-endian numbers (rule 1.2).
 
 pub(crate) fn u16_at(bytes: &[u8], at: usize) -> u16 {
     u16::from_le_bytes([bytes[at], bytes[at + 1]])

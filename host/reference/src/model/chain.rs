@@ -1,4 +1,4 @@
-//! Document 01, "The chain".
+//! The walk along the pages of a table (rules 4.1 to 4.10).
 
 use std::collections::HashSet;
 

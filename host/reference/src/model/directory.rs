@@ -1,4 +1,4 @@
-//! Document 01, "File header and directory".
+//! File header and directory (rules 3.1 to 3.14).
 
 use std::collections::HashSet;
 
@@ -25,7 +25,7 @@ pub(super) struct Pointer {
 }
 
 impl Directory {
-    /// Rule 9.
+    /// Rules 3.4 to 3.7; a breach is 9.
     pub fn read(block: &[u8], file_len: u64) -> Result<Self, Refusal> {
         let len_page = u32_at(block, 0x04);
         let num_tables = u32_at(block, 0x08);
@@ -54,7 +54,7 @@ impl Directory {
         })
     }
 
-    /// The asked pointer: rule 10, then first_page and last_page by rule 11.
+    /// The pointer of the table asked for, and its two links (rules 3.11, 3.12).
     pub fn pointer(&self, table: Table) -> Result<Pointer, Refusal> {
         let pointer = self
             .pointers
@@ -66,7 +66,7 @@ impl Directory {
         Ok(*pointer)
     }
 
-    /// Rule 11 for a link that stands in page `holder`.
+    /// Refusal 11 for a bad link, which stands in page `holder` (rule 2.20).
     pub fn check_link(&self, link: u32, holder: u32) -> Result<(), Refusal> {
         if (1..self.pages).contains(&link) {
             Ok(())

@@ -1,4 +1,4 @@
-//! The reference itself. Its files follow the sections of document 01.
+//! The reference itself. Its files follow the sections of the rules.
 
 pub(crate) mod bytes;
 mod chain;

@@ -1,4 +1,4 @@
-//! Document 01, "The chain" (page header) and "Row index".
+//! Page header and row index (rules 4.11 to 4.15, 5.1 to 5.10).
 
 use super::bytes::{u16_at, u32_at};
 use super::row::Row;

@@ -1,4 +1,4 @@
-//! The three questions of document 01, over whatever blocks are held.
+//! The three questions (rules 5.19 to 5.25), over whatever blocks are held.
 
 use super::chain::{walk, Walked};
 use super::row::{Row, Text};
@@ -40,7 +40,7 @@ pub enum Rows {
 /// The answer to the question for record k.
 #[derive(Clone, Debug, PartialEq, Eq)]
 pub enum RecordReply {
-    /// The record's numbers in the order of document 01.
+    /// The record's numbers, in the order of rule 5.16.
     Found(Vec<u64>),
     /// The record is not found yet.
     Waiting {
@@ -128,7 +128,7 @@ pub(super) fn text(
     })
 }
 
-/// Rule 8.
+/// Rule 2.8.
 fn asked_table(number: u32) -> Result<Table, Refusal> {
     Table::of_type(number).ok_or(Refusal::plain(8))
 }
@@ -138,7 +138,7 @@ enum Search<T> {
     Waiting { page: u32, rows: u64, pages: u64 },
 }
 
-/// "If k is found it answers, also when the walk is Waiting; else Waiting, or 18."
+/// Rule 5.24: row k, if the walk finds it; if not, how the walk ended decides.
 fn search<T>(
     source: &impl Source,
     table: Table,

@@ -1,4 +1,4 @@
-//! Document 01, "Runs": the received blocks, which it calls the book, kept without record, image and map.
+//! The received blocks of a run, without record, image and map (rules 8.3 to 8.8).
 
 use std::borrow::Cow;
 

@@ -1,8 +1,8 @@
-//! Document 01, "Refusal numbers".
+//! Refusals (section 2 of the rules).
 
 use std::{error, fmt};
 
-/// A refusal: its number in document 01's table, and what it carries.
+/// A refusal: its number and what it carries (rules 2.1 to 2.21).
 ///
 /// ```
 /// use sarvoltig_reference::model::{Refusal, Session};

@@ -1,5 +1,5 @@
-//! Document 01, "Row index": the table of fixed parts and strings, and the
-//! numbers of a record.
+//! Rows: fixed parts and strings (rules 5.8 to 5.14), and the numbers of a
+//! record (rules 5.16 to 5.18).
 
 use super::bytes::{u16_at, u32_at};
 use super::string::{read_string, Encoding};
@@ -22,7 +22,7 @@ pub(super) struct Text {
     pub encoding: Encoding,
 }
 
-/// The column "Strings".
+/// Where the strings of a row are (rule 5.11, last column).
 #[derive(Clone, Copy)]
 enum Strings {
     None,
@@ -36,7 +36,7 @@ enum Strings {
 
 impl<'a> Row<'a> {
     /// The row at `place` whose bytes up to the index are `bytes`, or the
-    /// number of the rule it breaks.
+    /// number of its refusal.
     pub fn read(table: Table, place: u32, bytes: &'a [u8]) -> Result<Self, u8> {
         let (fixed, strings) = layout(table, bytes).ok_or(14)?;
         if fixed > bytes.len() {
@@ -71,7 +71,7 @@ impl<'a> Row<'a> {
         })
     }
 
-    /// The record's numbers in the order of document 01.
+    /// The record's numbers, in the order of rule 5.16.
     pub fn numbers(&self) -> Vec<u64> {
         let four = |at: usize| u64::from(u32_at(self.bytes, at));
         let two = |at: usize| u64::from(u16_at(self.bytes, at));
@@ -94,7 +94,7 @@ impl<'a> Row<'a> {
     }
 }
 
-/// The length of the fixed part, and the strings.
+/// The length of the fixed part, and the strings (rule 5.11).
 fn layout(table: Table, bytes: &[u8]) -> Option<(usize, Strings)> {
     Some(match table {
         Table::Tracks => (0x88, Strings::Offsets(0x5e)),
@@ -107,7 +107,7 @@ fn layout(table: Table, bytes: &[u8]) -> Option<(usize, Strings)> {
     })
 }
 
-/// "An artist row is first tested for `0a` bytes."
+/// Rule 5.12.
 fn artist_layout(bytes: &[u8]) -> Option<(usize, Strings)> {
     let near = bytes.get(..0x0a)?;
     match u16_at(near, 0x00) {

@@ -1,4 +1,4 @@
-//! Document 01, "The stick and the intake".
+//! Opening and delivery (section 1 of the rules), and the tests before each call (rules 2.25 to 2.28).
 
 use std::borrow::Cow;
 
@@ -51,7 +51,7 @@ impl Session {
         }
     }
 
-    /// Lends other buffers and keeps the record.
+    /// Takes other buffers and keeps the record.
     ///
     /// ```
     /// # use sarvoltig_reference::model::{Refusal, Session};
@@ -228,7 +228,7 @@ impl Session {
         question::text(self, table.into(), k, slot)
     }
 
-    /// Rules 1, 2 and 3; gives B.
+    /// Rules 2.1 to 2.3; gives B.
     fn check_sizes(&self, len: u64) -> Result<u64, Refusal> {
         let blocks = block_count(len)?;
         if (self.image.len() as u64) < len {
@@ -240,7 +240,7 @@ impl Session {
         Ok(blocks)
     }
 
-    /// Rules 1 to 4 for the record; gives B.
+    /// Rules 2.1 to 2.4 for the record; gives B.
     fn check_intake(&self) -> Result<u64, Refusal> {
         let blocks = self.check_sizes(self.file_len)?;
         if spare_bit_set(&self.map, blocks) {
@@ -262,7 +262,7 @@ impl Source for Session {
     }
 }
 
-/// B of an allowed file length (rule 1).
+/// B of an allowed file length (rules 1.6, 1.7).
 pub(super) fn block_count(len: u64) -> Result<u64, Refusal> {
     let block = BLOCK_SIZE as u64;
     if (block..=LONGEST_FILE).contains(&len) && len.is_multiple_of(block) {
@@ -272,7 +272,7 @@ pub(super) fn block_count(len: u64) -> Result<u64, Refusal> {
     }
 }
 
-/// "The first ceil(B/64) words count."
+/// Rule 1.9.
 fn counted_words(blocks: u64) -> usize {
     blocks.div_ceil(64) as usize
 }
@@ -281,7 +281,7 @@ fn is_held(map: &[u64], block: usize) -> bool {
     map[block / 64] >> (block % 64) & 1 == 1
 }
 
-/// "the number of ones in the map's counted words"
+/// Rule 1.17.
 fn held_count(map: &[u64], blocks: u64) -> u64 {
     map[..counted_words(blocks)]
         .iter()
@@ -289,7 +289,7 @@ fn held_count(map: &[u64], blocks: u64) -> u64 {
         .sum()
 }
 
-/// Whether a bit at B or above is set in a counted word.
+/// Whether a counted word has a one that belongs to no block (rule 2.4).
 fn spare_bit_set(map: &[u64], blocks: u64) -> bool {
     match blocks % 64 {
         0 => false,

@@ -1,4 +1,4 @@
-//! Document 01, "DeviceSQL strings".
+//! DeviceSQL strings (section 6 of the rules).
 
 use super::bytes::u16_at;
 
@@ -25,7 +25,7 @@ pub struct StringText {
 const LONG_HEAD: usize = 4;
 
 /// Reads the string at the front of `bytes`, which end where the index starts.
-/// `None` is rule 15: malformed or outside.
+/// `None` is refusal 15 (rule 6.8).
 ///
 /// ```
 /// use sarvoltig_reference::model::{read_string, Encoding, StringText};
@@ -51,7 +51,7 @@ pub fn read_string(bytes: &[u8]) -> Option<StringText> {
     })
 }
 
-/// "two bytes of total length", once the four head bytes are inside.
+/// The length of the whole string, once the four bytes of its head are inside (rule 6.3).
 fn long_total(bytes: &[u8]) -> Option<usize> {
     let head = bytes.get(..LONG_HEAD)?;
     Some(usize::from(u16_at(head, 1)))

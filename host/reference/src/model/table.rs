@@ -1,4 +1,4 @@
-//! The ten tables of document 01, "The stick and the intake".
+//! The ten tables (rule 1.1).
 
 /// A table that is read. Its number is its type in the file.
 #[derive(Clone, Copy, Debug, PartialEq, Eq, Hash)]

@@ -1,4 +1,4 @@
-//! Answers, printed as the replay paper says.
+//! Answers, printed as `replay` prints them.
 
 use std::fmt;
 
@@ -31,7 +31,7 @@ pub enum Reply {
     /// To the question for all rows.
     Rows(Rows),
     /// To the question for a record, with the type asked.
-    Record(u8, RecordReply),
+    Record(u32, RecordReply),
     /// To the question for a string.
     Text(TextReply),
 }

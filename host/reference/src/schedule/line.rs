@@ -5,27 +5,30 @@ use std::str::FromStr;
 
 use super::Call;
 
-/// FETCH "means nothing before request A11".
+/// The fetch number of a line, which nothing uses so far.
 const FETCH: u64 = 0;
 
 impl Call {
-    /// The call's line, without its end.
+    /// The call's line, without its end. In lines a type has 8 bits, so a
+    /// question for a wider one has no line; it is refused and changes nothing.
     ///
     /// ```
     /// use sarvoltig_reference::schedule::Call;
     ///
-    /// assert_eq!(Call::Open { len: 1536 }.to_line(), "open 1536 0");
+    /// let line = Call::Open { len: 1536 }.to_line();
+    /// assert_eq!(line.as_deref(), Some("open 1536 0"));
+    /// assert_eq!(Call::Record { table: 257, k: 0 }.to_line(), None);
     /// ```
-    pub fn to_line(&self) -> String {
-        match self {
+    pub fn to_line(&self) -> Option<String> {
+        Some(match self {
             Call::Lend { image, words } => format!("lend {image} {words}"),
             Call::Word { i, value } => format!("word {i} {value}"),
             Call::Open { len } => format!("open {len} {FETCH}"),
             Call::Deliver { block, piece } => format!("deliver {block} {FETCH} {}", hex(piece)),
-            Call::Rows { table, room } => format!("rows {table} {room}"),
-            Call::Record { table, k } => format!("record {table} {k}"),
-            Call::Text { table, k, slot } => format!("string {table} {k} {slot}"),
-        }
+            Call::Rows { table, room } => format!("rows {} {room}", narrow(*table)?),
+            Call::Record { table, k } => format!("record {} {k}", narrow(*table)?),
+            Call::Text { table, k, slot } => format!("string {} {k} {slot}", narrow(*table)?),
+        })
     }
 
     /// The call of a line, if the line is one.
@@ -61,21 +64,30 @@ impl Call {
                 }
             }
             ["rows", table, room] => Call::Rows {
-                table: number(table)?,
+                table: table_type(table)?,
                 room: number(room)?,
             },
             ["record", table, k] => Call::Record {
-                table: number(table)?,
+                table: table_type(table)?,
                 k: number(k)?,
             },
             ["string", table, k, slot] => Call::Text {
-                table: number(table)?,
+                table: table_type(table)?,
                 k: number(k)?,
                 slot: number(slot)?,
             },
             _ => return None,
         })
     }
+}
+
+/// A type that a line can have.
+fn narrow(table: u32) -> Option<u8> {
+    u8::try_from(table).ok()
+}
+
+fn table_type(word: &str) -> Option<u32> {
+    number::<u8>(word).map(u32::from)
 }
 
 /// A decimal number without a sign.

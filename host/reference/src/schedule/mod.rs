@@ -1,4 +1,4 @@
-//! Runs of calls, as values and as the lines that the replay paper describes.
+//! Runs of calls, as values and as the lines that `replay` reads.
 
 mod answer;
 mod line;
@@ -8,7 +8,7 @@ mod replay;
 use crate::model::Session;
 
 pub use answer::{Answer, Reply};
-pub use planner::{random_file, random_run, schedule};
+pub use planner::{compared_run, large_file, large_run, random_file, random_run, schedule};
 pub use replay::{crc32, replay, Replayed};
 
 /// A call, or something done to the buffers between calls.
@@ -17,7 +17,7 @@ pub use replay::{crc32, replay, Replayed};
 /// use sarvoltig_reference::schedule::Call;
 ///
 /// let call = Call::Deliver { block: 3, piece: vec![0x0a, 0xff] };
-/// assert_eq!(call.to_line(), "deliver 3 0 0aff");
+/// assert_eq!(call.to_line().as_deref(), Some("deliver 3 0 0aff"));
 /// assert_eq!(Call::parse_line("deliver 3 0 0aff"), Some(call));
 /// ```
 #[derive(Clone, Debug, PartialEq, Eq)]
@@ -51,21 +51,21 @@ pub enum Call {
     /// The question for all rows.
     Rows {
         /// The type asked.
-        table: u8,
+        table: u32,
         /// The list's length.
         room: usize,
     },
     /// The question for a record.
     Record {
         /// The type asked.
-        table: u8,
+        table: u32,
         /// The record's number, from 0.
         k: u64,
     },
     /// The question for a string.
     Text {
         /// The type asked.
-        table: u8,
+        table: u32,
         /// The record's number, from 0.
         k: u64,
         /// The string's slot.
@@ -116,12 +116,12 @@ impl Call {
     }
 }
 
-/// "byte i = (167 i + 13) mod 256"
+/// What a fresh image holds.
 fn fresh_image(len: usize) -> Vec<u8> {
     (0..len).map(|i| (167 * (i % 256) + 13) as u8).collect()
 }
 
-/// "word i = hexadecimal 0123456789abcdef times (2 i + 1), mod 2^64"
+/// What a fresh map holds: odd multiples of one number.
 fn fresh_map(words: usize) -> Vec<u64> {
     (0..words as u64)
         .map(|i| 0x0123_4567_89ab_cdef_u64.wrapping_mul(2 * i + 1))

@@ -1,11 +1,32 @@
 //! Makes runs of calls.
 
+use std::collections::BTreeSet;
+
 use super::Call;
-use crate::damage::damage;
-use crate::generate::{export, Options};
-use crate::model::bytes::u32_at;
+use crate::damage::{apply, damage, Kind};
+use crate::generate::{export, Large, Options};
+use crate::layout::Layout;
 use crate::model::{Rows, Session, Table, BLOCK_SIZE};
 use crate::rng::Rng;
+
+/// Of so many runs of the comparison one is large.
+const RUNS_FOR_A_LARGE_ONE: u64 = 100;
+
+/// The run that the comparison makes for a seed: [`large_run`] for the last of
+/// each 100 seeds, else [`random_run`].
+///
+/// ```
+/// use sarvoltig_reference::schedule::{compared_run, large_run, random_run};
+///
+/// assert_eq!(compared_run(98), random_run(98));
+/// assert_eq!(compared_run(99), large_run(0));
+/// ```
+pub fn compared_run(seed: u64) -> Vec<Call> {
+    match seed % RUNS_FOR_A_LARGE_ONE == RUNS_FOR_A_LARGE_ONE - 1 {
+        true => large_run(seed / RUNS_FOR_A_LARGE_ONE),
+        false => random_run(seed),
+    }
+}
 
 /// A random export, damaged in two of three cases.
 ///
@@ -15,7 +36,28 @@ use crate::rng::Rng;
 /// assert_eq!(random_file(&mut Rng::new(1)).len() % 512, 0);
 /// ```
 pub fn random_file(rng: &mut Rng) -> Vec<u8> {
-    let file = export(&Options::random(rng)).bytes;
+    damaged_or_not(export(&Options::random(rng)).bytes, rng)
+}
+
+/// A large export, damaged in two of three cases; the three kinds in turn. Of
+/// the long chains some have a loop.
+///
+/// ```
+/// use sarvoltig_reference::{rng::Rng, schedule::large_file};
+///
+/// assert!(large_file(2, &mut Rng::new(2)).len() > 1 << 20);
+/// ```
+pub fn large_file(number: u64, rng: &mut Rng) -> Vec<u8> {
+    let large = [Large::Chain, Large::Rows, Large::File][(number % 3) as usize];
+    let mut file = export(&Options::large(large, rng)).bytes;
+    if large == Large::Chain && rng.chance(1, 6) {
+        apply(Kind::Loop, &mut file, rng);
+        return file;
+    }
+    damaged_or_not(file, rng)
+}
+
+fn damaged_or_not(file: Vec<u8>, rng: &mut Rng) -> Vec<u8> {
     match rng.below(3) {
         0 => file,
         _ => damage(&file, rng),
@@ -35,6 +77,37 @@ pub fn random_run(seed: u64) -> Vec<Call> {
     schedule(&file, rng)
 }
 
+/// A run of calls about a large file. It brings the blocks of the chains and a
+/// few others.
+///
+/// ```
+/// use sarvoltig_reference::schedule::large_run;
+///
+/// assert!(large_run(2).len() > 10);
+/// ```
+pub fn large_run(number: u64) -> Vec<Call> {
+    let rng = &mut Rng::new(number);
+    let file = large_file(number, rng);
+    let blocks = blocks_of_chains(&file, rng);
+    run_with(&file, blocks, rng)
+}
+
+/// The file header's block, those of the chains, and some others.
+fn blocks_of_chains(file: &[u8], rng: &mut Rng) -> Vec<u64> {
+    let layout = Layout::new(file);
+    let mut blocks = BTreeSet::from([0]);
+    for (_, pointer) in layout.table_pointers() {
+        for page in layout.chain(pointer) {
+            let start = layout.page_start(page) / BLOCK_SIZE;
+            let end = start + layout.len_page() / BLOCK_SIZE;
+            blocks.extend(start as u64..end as u64);
+        }
+    }
+    let all = (file.len() / BLOCK_SIZE) as u64;
+    blocks.extend((0..20).map(|_| rng.below(all)));
+    blocks.into_iter().collect()
+}
+
 /// A run of calls that brings the blocks of `export` in some order, with
 /// questions in between and calls that are refused.
 ///
@@ -45,34 +118,36 @@ pub fn random_run(seed: u64) -> Vec<Call> {
 /// assert!(matches!(calls[0], Call::Lend { .. }));
 /// ```
 pub fn schedule(export: &[u8], rng: &mut Rng) -> Vec<Call> {
+    let blocks = (0..(export.len() / BLOCK_SIZE) as u64).collect();
+    run_with(export, blocks, rng)
+}
+
+/// A run of calls that brings these blocks.
+fn run_with(export: &[u8], blocks: Vec<u64>, rng: &mut Rng) -> Vec<Call> {
+    let pointers = Layout::new(export).table_pointers();
     let mut planner = Planner {
         rare: rng.below(12),
-        tables: tables_with_pointer(export),
+        tables: pointers.into_iter().map(|(table, _)| table).collect(),
+        events_in: EVENTS_IN.max(blocks.len() as u64 / 8),
         rng,
         export,
         session: Session::new(Vec::new(), Vec::new()),
         calls: Vec::new(),
     };
     planner.start();
-    for block in planner.arrivals() {
+    for block in planner.arrivals(blocks) {
         planner.arrival(block);
     }
     for table in Table::ALL {
         if planner.tables.contains(&table) || planner.rng.chance(1, 8) {
-            planner.ask_about(table.number());
+            planner.ask_about(u32::from(table.number()));
         }
     }
     planner.calls
 }
 
-fn tables_with_pointer(export: &[u8]) -> Vec<Table> {
-    let num_tables = u32_at(export, 0x08).min(30) as usize;
-    export[0x1c..]
-        .chunks_exact(16)
-        .take(num_tables)
-        .filter_map(|pointer| Table::of_type(u32_at(pointer, 0)))
-        .collect()
-}
+/// In so many arrivals there are 18 other events, fewer in long runs.
+const EVENTS_IN: u64 = 40;
 
 struct Planner<'a> {
     rng: &'a mut Rng,
@@ -84,6 +159,7 @@ struct Planner<'a> {
     tables: Vec<Table>,
     /// Which of the rare events this run has; most runs have none.
     rare: u64,
+    events_in: u64,
 }
 
 impl Planner<'_> {
@@ -159,14 +235,15 @@ impl Planner<'_> {
             268_435_968,
             268_435_456,
             any,
+            self.with_high_bit(len),
+            self.with_high_bit(len),
         ];
         let len = self.rng.pick(&lens);
         self.make(Call::Open { len });
     }
 
     /// The blocks in an order, sometimes with some missing.
-    fn arrivals(&mut self) -> Vec<u64> {
-        let mut blocks: Vec<u64> = (0..self.blocks()).collect();
+    fn arrivals(&mut self, mut blocks: Vec<u64>) -> Vec<u64> {
         match self.rng.below(6) {
             0 => {}
             1 => blocks.reverse(),
@@ -189,7 +266,7 @@ impl Planner<'_> {
             self.deliver_other(block);
         }
         self.deliver_right(block);
-        match self.rng.below(40) {
+        match self.rng.below(self.events_in) {
             0..=4 => self.repeat(),
             5..=7 => {
                 let block = self.rng.below(self.blocks());
@@ -238,12 +315,28 @@ impl Planner<'_> {
 
     fn deliver_past_end(&mut self) {
         let blocks = self.blocks();
+        if self.rng.chance(1, 2) {
+            return self.deliver_with_high_bit();
+        }
         let block = self
             .rng
             .pick(&[blocks, blocks + 1, blocks + 64, 1 << 32, u64::MAX]);
         let len = self.rng.pick(&[BLOCK_SIZE, BLOCK_SIZE, 3]);
         let piece = self.rng.bytes(len);
         self.make(Call::Deliver { block, piece });
+    }
+
+    /// A piece of the file under a number that is a block's but for a high bit.
+    fn deliver_with_high_bit(&mut self) {
+        let right = self.rng.below(self.blocks());
+        let piece = self.piece(right);
+        let block = right | 1 << self.rng.pick(&[20, 24, 31, 32, 63]);
+        self.make(Call::Deliver { block, piece });
+    }
+
+    /// The number with a bit set above the lowest eight.
+    fn with_high_bit(&mut self, number: u64) -> u64 {
+        number | 1 << self.rng.pick(&[8, 15, 16, 24, 31, 32, 32, 48, 63])
     }
 
     fn deliver_wrong_size(&mut self) {
@@ -305,12 +398,11 @@ impl Planner<'_> {
     }
 
     fn any_question(&mut self) {
-        let any = self.rng.next_u64() as u8;
         let table = match self.rng.below(16) {
-            0 => self.rng.pick(&[9, 12, 14, 16, 19, 255, any]),
-            1..4 => self.rng.pick(&Table::ALL).number(),
+            0 => self.other_type(),
+            1..4 => u32::from(self.rng.pick(&Table::ALL).number()),
             _ if self.tables.is_empty() => 0,
-            _ => self.rng.pick(&self.tables).number(),
+            _ => u32::from(self.rng.pick(&self.tables).number()),
         };
         match self.rng.below(3) {
             0 => self.ask_rows(table),
@@ -319,7 +411,21 @@ impl Planner<'_> {
         }
     }
 
-    fn ask_about(&mut self, table: u8) {
+    /// A type that is mostly none of the ten, one of two times one of them but
+    /// for a high bit.
+    fn other_type(&mut self) -> u32 {
+        if self.rng.chance(1, 2) {
+            let any = self.rng.next_u64() as u8;
+            return u32::from(self.rng.pick(&[9, 12, 14, 16, 19, 255, any]));
+        }
+        let table = match self.tables.is_empty() {
+            true => self.rng.pick(&Table::ALL),
+            false => self.rng.pick(&self.tables),
+        };
+        u32::from(table.number()) | 1 << (8 + self.rng.below(24))
+    }
+
+    fn ask_about(&mut self, table: u32) {
         self.ask_rows(table);
         for _ in 0..4 {
             self.ask_record(table);
@@ -328,7 +434,7 @@ impl Planner<'_> {
     }
 
     /// The rows found so far.
-    fn rows_found(&self, table: u8) -> u64 {
+    fn rows_found(&self, table: u32) -> u64 {
         let reply = self.session.rows(table, &mut []);
         match reply {
             Ok(Rows::Full { rows, .. } | Rows::Waiting { rows, .. }) => rows,
@@ -337,7 +443,7 @@ impl Planner<'_> {
         }
     }
 
-    fn ask_rows(&mut self, table: u8) {
+    fn ask_rows(&mut self, table: u32) {
         let rows = self.rows_found(table) as usize;
         let rooms = [
             rows.saturating_sub(1),
@@ -351,7 +457,7 @@ impl Planner<'_> {
         self.make(Call::Rows { table, room });
     }
 
-    fn any_k(&mut self, table: u8) -> u64 {
+    fn any_k(&mut self, table: u32) -> u64 {
         let rows = self.rows_found(table);
         let inside = self.rng.below(rows.max(1));
         let ks = [
@@ -362,21 +468,24 @@ impl Planner<'_> {
             rows.saturating_sub(1),
             rows,
             u64::MAX,
+            self.with_high_bit(inside),
         ];
         self.rng.pick(&ks)
     }
 
-    fn ask_record(&mut self, table: u8) {
+    fn ask_record(&mut self, table: u32) {
         let k = self.any_k(table);
         self.make(Call::Record { table, k });
     }
 
-    fn ask_text(&mut self, table: u8) {
+    fn ask_text(&mut self, table: u32) {
         let k = self.any_k(table);
-        let slots = Table::of_type(u32::from(table)).map_or(1, Table::slots);
+        let slots = Table::of_type(table).map_or(1, Table::slots);
+        let good = self.rng.below(slots.max(1));
         let slot = match self.rng.below(8) {
             0 => self.rng.pick(&[slots, slots + 1, u64::MAX]),
-            _ => self.rng.below(slots.max(1)),
+            1 => self.with_high_bit(good),
+            _ => good,
         };
         self.make(Call::Text { table, k, slot });
     }

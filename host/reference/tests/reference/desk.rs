@@ -1,4 +1,4 @@
-//! The desk program of document 01, "Near the edges", and its Case D.
+//! The desk program and case D (rules 9.5 to 9.13).
 
 use std::fmt::Write;
 
@@ -85,7 +85,7 @@ pub fn case_d() -> Vec<u8> {
 }
 
 #[test]
-fn case_d_prints_what_document_01_says() {
+fn case_d_prints_what_rule_9_12_has() {
     let file = case_d();
     let block = |number: u8| {
         let start = 512 * usize::from(number);

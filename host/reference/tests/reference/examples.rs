@@ -1,4 +1,4 @@
-//! The examples of document 01, "Near the edges", and edges of single rules.
+//! The cases of rules 9.1 to 9.4, and edges of single rules.
 
 use sarvoltig_reference::model::{
     entries, index_size, read_string, Encoding, RecordReply, Refusal, Rows, Session, StringText,
@@ -232,7 +232,7 @@ fn rows_are_checked_one_after_another() {
 }
 
 #[test]
-fn refusals_come_in_the_order_of_document_01() {
+fn refusals_come_in_the_order_of_the_rules() {
     let mut session = Session::new(vec![0; 100], vec![]);
     assert_eq!(session.deliver(9, &[]), refused(1, 0));
     session.replace_buffers(vec![0; 1024], vec![0; 1]);

@@ -1,7 +1,7 @@
 //! Generated exports: what they say is there is found, and nothing else counts.
 
 use sarvoltig_reference::generate::{
-    big, demo, export, Expected, ExpectedRow, ExpectedTable, Export, Options,
+    big, demo, export, Expected, ExpectedRow, ExpectedTable, Export, Large, Options,
 };
 use sarvoltig_reference::model::{RecordReply, Refusal, Rows, Session, Table, TextReply};
 use sarvoltig_reference::rng::Rng;
@@ -197,6 +197,28 @@ fn the_big_export_is_read_as_generated() {
         .filter(|text| !text.bytes.is_empty())
         .count();
     assert_eq!(strings, 6 * 20_000);
+}
+
+#[test]
+fn large_exports_are_read_as_generated() {
+    let (mut most_pages, mut most_rows, mut last_place) = (0, 0, 0);
+    for seed in 0..12 {
+        for large in [Large::Chain, Large::Rows, Large::File] {
+            let rng = &mut Rng::new(seed);
+            let export = export(&Options::large(large, rng));
+            let session = whole(&export.bytes);
+            for table in &export.expected.tables {
+                check_table(&session, table, || rng.chance(1, 1000));
+                most_pages = table.pages.max(most_pages);
+                most_rows = table.rows.len().max(most_rows);
+                let places = table.rows.iter().map(|row| row.place);
+                last_place = places.max().unwrap_or(0).max(last_place);
+            }
+        }
+    }
+    assert!(most_pages > 1000, "{most_pages} pages");
+    assert!(most_rows > 65_536, "{most_rows} rows");
+    assert!(last_place > 32 << 20, "a row at {last_place}");
 }
 
 #[test]

@@ -9,7 +9,9 @@ use crate::desk::case_d;
 fn lines_are_read_as_written() {
     for seed in 0..30 {
         for call in random_run(seed) {
-            assert_eq!(Call::parse_line(&call.to_line()), Some(call));
+            if let Some(line) = call.to_line() {
+                assert_eq!(Call::parse_line(&line), Some(call));
+            }
         }
     }
 }
@@ -48,8 +50,10 @@ fn other_lines_are_no_calls() {
 #[test]
 fn a_replay_prints_the_answers_of_the_calls() {
     for seed in 0..20 {
-        let calls = random_run(seed);
-        let lines: String = calls.iter().map(|call| call.to_line() + "\n").collect();
+        let mut calls = random_run(seed);
+        calls.retain(|call| call.to_line().is_some());
+        let lines = calls.iter().filter_map(Call::to_line);
+        let lines: String = lines.map(|line| line + "\n").collect();
         let replayed = replay(&lines);
         assert_eq!(replayed.status, 0);
         let mut session = Session::new(Vec::new(), Vec::new());
@@ -86,7 +90,8 @@ refused 4 0 0 lent e2887577
 fn case_d_replays() {
     let deliver = |block: u64| {
         let piece = case_d()[512 * block as usize..][..512].to_vec();
-        Call::Deliver { block, piece }.to_line()
+        let call = Call::Deliver { block, piece };
+        call.to_line().expect("a delivery has a line")
     };
     let input = [
         "lend 1600 2",

@@ -1,4 +1,4 @@
-//! Document 01, "Runs": a session is checked against the received blocks.
+//! Runs (section 8 of the rules): a session is checked against the received blocks.
 
 use std::collections::HashMap;
 
@@ -95,7 +95,7 @@ fn each_answer_and_the_buffers_at_the_end_are_what_the_received_blocks_say() {
                 }
                 received.deliver(block, piece);
             }
-            assert_eq!(call.make(&mut session), expected, "{}", call.to_line());
+            assert_eq!(call.make(&mut session), expected, "{call:?}");
         }
         buffers_by_received(&received, file.len(), &mut image, &mut map);
         assert_eq!(session.image(), image);
@@ -113,7 +113,7 @@ fn refused_answer(number: u8) -> Answer {
 /// All rows, the first records and their strings, of every table.
 fn all_answers(session: &mut Session) -> Vec<Answer> {
     let mut calls = Vec::new();
-    for table in Table::ALL.map(Table::number) {
+    for table in Table::ALL.map(|table| u32::from(table.number())) {
         calls.push(Call::Rows { table, room: 6000 });
         for k in 0..4 {
             calls.push(Call::Record { table, k });
@@ -173,9 +173,9 @@ fn two_runs_with_equal_received_blocks_end_alike() {
 /// Earlier answers of a run, with which later ones must agree.
 #[derive(Default)]
 struct Earlier {
-    shown: HashMap<u8, Vec<u32>>,
-    found: HashMap<(u8, u64, Option<u64>), Answer>,
-    faults: HashMap<u8, Refusal>,
+    written: HashMap<u32, Vec<u32>>,
+    found: HashMap<(u32, u64, Option<u64>), Answer>,
+    faults: HashMap<u32, Refusal>,
 }
 
 impl Earlier {
@@ -187,14 +187,14 @@ impl Earlier {
             _ => return,
         };
         self.check_fault(table, answer);
-        self.check_shown(table, answer);
+        self.check_written(table, answer);
         let asks_again = matches!(&answer.reply, Ok(Reply::Record(..) | Reply::Text(_)));
         if let (Some(question), true) = (found, asks_again) {
             self.check_found(question, answer);
         }
     }
 
-    fn check_fault(&mut self, table: u8, answer: &Answer) {
+    fn check_fault(&mut self, table: u32, answer: &Answer) {
         let refusal = answer.reply.as_ref().err();
         if let Some(fault) = self.faults.get(&table) {
             let no_slot = refusal.is_some_and(|refusal| refusal.number == 19);
@@ -204,17 +204,17 @@ impl Earlier {
         }
     }
 
-    fn check_shown(&mut self, table: u8, answer: &Answer) {
+    fn check_written(&mut self, table: u32, answer: &Answer) {
         if let Ok(Reply::Rows(Rows::Full { rows, .. } | Rows::Waiting { rows, .. })) = answer.reply
         {
             let places = &answer.list[..rows as usize];
-            let shown = self.shown.entry(table).or_default();
-            assert!(places.starts_with(shown));
-            *shown = places.to_vec();
+            let written = self.written.entry(table).or_default();
+            assert!(places.starts_with(written));
+            *written = places.to_vec();
         }
     }
 
-    fn check_found(&mut self, question: (u8, u64, Option<u64>), answer: &Answer) {
+    fn check_found(&mut self, question: (u32, u64, Option<u64>), answer: &Answer) {
         match self.found.get(&question) {
             Some(earlier) => assert_eq!(answer, earlier),
             None if answer.to_string().starts_with("wait") => {}
@@ -240,7 +240,7 @@ fn later_answers_keep_to_earlier_ones() {
             if let Some(answer) = call.make(&mut session) {
                 earlier.check(&call, &answer);
             }
-            for table in Table::ALL.map(Table::number) {
+            for table in Table::ALL.map(|table| u32::from(table.number())) {
                 let question = Call::Rows { table, room: 6000 };
                 if let Some(answer) = question.make(&mut session) {
                     earlier.check(&question, &answer);

@@ -1,6 +1,6 @@
-//! `calls SEED`: writes the calls of a random run as a text for `replay`.
+//! `calls SEED`: writes the calls of a run of the comparison as a text for `replay`, without those that have no line.
 
-use sarvoltig_reference::schedule::random_run;
+use sarvoltig_reference::schedule::{compared_run, Call};
 use std::io::{self, Write};
 use std::process::ExitCode;
 
@@ -9,9 +9,10 @@ fn main() -> ExitCode {
         eprintln!("usage: calls SEED");
         return ExitCode::from(2);
     };
-    let lines: String = random_run(seed)
+    let lines: String = compared_run(seed)
         .iter()
-        .map(|call| call.to_line() + "\n")
+        .filter_map(Call::to_line)
+        .map(|line| line + "\n")
         .collect();
     match io::stdout().lock().write_all(lines.as_bytes()) {
         Ok(()) => ExitCode::SUCCESS,

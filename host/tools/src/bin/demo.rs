@@ -9,6 +9,7 @@ use sarvoltig::{
 };
 use sarvoltig_reference::rng::Rng;
 use std::collections::{HashMap, HashSet};
+use std::fmt;
 use std::io::{self, IsTerminal, Write};
 use std::process::ExitCode;
 use std::thread::sleep;
@@ -322,12 +323,42 @@ fn menu(nodes: &[Node]) -> Vec<(usize, &Node)> {
     menu
 }
 
-/// The playlists with their tracks, at most so many of each, folders opened out.
-fn playlists(intake: &Intake, most: usize) -> Result<(), Refusal> {
+/// What ends the demo early.
+enum Failure {
+    /// The file is refused.
+    Refused(Refusal),
+    /// The file cannot be read, or nothing can be printed.
+    Io(io::Error),
+}
+
+impl From<Refusal> for Failure {
+    fn from(refusal: Refusal) -> Self {
+        Self::Refused(refusal)
+    }
+}
+
+impl From<io::Error> for Failure {
+    fn from(error: io::Error) -> Self {
+        Self::Io(error)
+    }
+}
+
+impl fmt::Display for Failure {
+    fn fmt(&self, f: &mut fmt::Formatter<'_>) -> fmt::Result {
+        match self {
+            Self::Refused(refusal) => write!(f, "refused {}: {refusal}", refusal.number()),
+            Self::Io(error) => error.fmt(f),
+        }
+    }
+}
+
+/// Prints the playlists with their tracks, at most so many of each, folders opened out.
+fn playlists(intake: &Intake, most: usize) -> Result<(), Failure> {
+    let mut out = io::stdout().lock();
     let (nodes, entries, tracks) = (nodes(intake)?, entries(intake)?, track_rows(intake)?);
     for (level, node) in menu(&nodes) {
         let mark = if node.folder { "/" } else { "" };
-        println!("{}{}{mark}", "  ".repeat(level), node.name);
+        writeln!(out, "{}{}{mark}", "  ".repeat(level), node.name)?;
         let margin = "  ".repeat(level + 1);
         let list = entries
             .get(&node.id)
@@ -342,28 +373,27 @@ fn playlists(intake: &Intake, most: usize) -> Result<(), Refusal> {
                 None => None,
             };
             let title = title.unwrap_or_else(|| format!("track {id} is missing"));
-            println!("{margin}{index:>4}  {title}");
+            writeln!(out, "{margin}{index:>4}  {title}")?;
         }
         if list.len() > most {
-            println!(
-                "{margin}      and {} more (--tracks N lists N of each)",
-                list.len() - most
-            );
+            let more = list.len() - most;
+            writeln!(
+                out,
+                "{margin}      and {more} more (--tracks N lists N of each)"
+            )?;
         }
     }
     Ok(())
 }
 
-fn run(options: &Options) -> Result<(), String> {
-    let file = std::fs::read(&options.file).map_err(|e| format!("{}: {e}", options.file))?;
+fn run(options: &Options) -> Result<(), Failure> {
+    let file = std::fs::read(&options.file)?;
     let mut image = vec![0; file.len()];
     let mut map = vec![0; map_words(file.len() as u64)];
-    let mut intake = Intake::open(&mut image, &mut map)
-        .map_err(|e| format!("{}: refused {}: {e}", options.file, e.number()))?;
-    take_in(&mut intake, &arrivals(&file, options), options.pause).map_err(|e| e.to_string())?;
-    println!();
+    let mut intake = Intake::open(&mut image, &mut map)?;
+    take_in(&mut intake, &arrivals(&file, options), options.pause)?;
+    writeln!(io::stdout())?;
     playlists(&intake, options.tracks)
-        .map_err(|e| format!("{}: refused {}: {e}", options.file, e.number()))
 }
 
 fn main() -> ExitCode {
@@ -373,8 +403,10 @@ fn main() -> ExitCode {
     };
     match run(&options) {
         Ok(()) => ExitCode::SUCCESS,
-        Err(message) => {
-            eprintln!("demo: {message}");
+        // whoever reads what is printed has seen enough
+        Err(Failure::Io(error)) if error.kind() == io::ErrorKind::BrokenPipe => ExitCode::SUCCESS,
+        Err(failure) => {
+            eprintln!("demo: {}: {failure}", options.file);
             ExitCode::FAILURE
         }
     }

@@ -1,0 +1,4 @@
+pub mod Words
+pub mod Bit
+pub mod Count
+pub mod Spare

@@ -1,0 +1,22 @@
+-- `c_interface::refuse` meets its contract: the refusal's number is the code, and what it carries the value.
+use borrow.Author.Needs.{needs}
+use Rattle.c_interface.proofs.refuse.Statement.{statement}
+use Rattle.c_interface.proofs.refuse.Tie as tie
+
+fault-requires : tie.Need-fault-requires
+fault-requires c κs = search needs
+
+slice-aggregate-put : tie.Need-slice-aggregate-put
+slice-aggregate-put c = search needs
+
+put-requires : tie.Need-put-requires
+put-requires c κs = search needs
+
+same-length : tie.Need-same-length
+same-length c = search needs
+
+returns : tie.Need-returns
+returns c = rw (← c .before .before .before .before .before .fault .ensures) (c .before .before .put .ensures)
+
+pub refuse-spec : {M : Type 1} → statement M
+refuse-spec = tie.close (tie.spec fault-requires slice-aggregate-put put-requires same-length returns)

@@ -1,0 +1,65 @@
+-- `c_interface::reply_delivered` meets its contract: each arm is a case of `deliverReply` or a refusal.
+use borrow.Author.Needs.{needs}
+use Rattle.c_interface.proofs.reply_delivered.Statement.{statement}
+use Rattle.c_interface.proofs.reply_delivered.Tie as tie
+
+enum-known-answer : tie.Need-enum-known-answer
+enum-known-answer c = search needs
+
+slice-aggregate-put : tie.Need-slice-aggregate-put
+slice-aggregate-put c = search needs
+
+put-requires : tie.Need-put-requires
+put-requires c κs = search needs
+
+enum-known-answer-2 : tie.Need-enum-known-answer-2
+enum-known-answer-2 c = search needs
+
+slice-aggregate-put-2 : tie.Need-slice-aggregate-put-2
+slice-aggregate-put-2 c = search needs
+
+put-requires-2 : tie.Need-put-requires-2
+put-requires-2 c κs = search needs
+
+enum-known-answer-3 : tie.Need-enum-known-answer-3
+enum-known-answer-3 c = search needs
+
+refuse-requires : tie.Need-refuse-requires
+refuse-requires c κs = search needs
+
+same-length : tie.Need-same-length
+same-length c = search needs
+
+returns : tie.Need-returns
+returns c = rw (c .before .before .before .before .before .before .answer .given .1) (c .before .before .put .ensures)
+
+same-length-2 : tie.Need-same-length-2
+same-length-2 c = search needs
+
+returns-2 : tie.Need-returns-2
+returns-2 c = rw (c .before .before .before .before .before .before .answer2 .given .1) (c .before .before .put2 .ensures)
+
+same-length-3 : tie.Need-same-length-3
+same-length-3 c = search needs
+
+returns-3 : tie.Need-returns-3
+returns-3 c = rw (c .before .before .before .before .before .answer3 .given .1) (c .before .before .refuse .ensures)
+
+pub reply-delivered-spec : {M : Type 1} → statement M
+reply-delivered-spec =
+    tie.close
+    (tie.spec
+    enum-known-answer
+    slice-aggregate-put
+    put-requires
+    enum-known-answer-2
+    slice-aggregate-put-2
+    put-requires-2
+    enum-known-answer-3
+    refuse-requires
+    same-length
+    returns
+    same-length-2
+    returns-2
+    same-length-3
+    returns-3)

@@ -1,0 +1,12 @@
+-- Rule 13.3: the code that a function of the C interface returns. A refusal has its own number, at most 63.
+use Prim.Native.Nat.{ℕ}
+
+-- Open, New, Full, found
+abbrev pub done : ℕ
+done = 0
+
+abbrev pub same : ℕ
+same = 64
+
+abbrev pub waiting : ℕ
+waiting = 65

@@ -1,0 +1,85 @@
+-- The walk's refusals: each is 11, one that reading a page of the chain gives, or 16, and what it carries: rules 2.20 and 4.2 to 4.5.
+use mathlib.Core.Path.{_≡_, refl, subst}
+use mathlib.Core.Bool.{true, false}
+use mathlib.Core.List.{List, [], _∷_}
+use mathlib.Core.Logic.{_⊎_, inl, inr, ⊎-elim}
+use Prim.Native.Nat.{ℕ, zero, suc, _≤_}
+use native.Mathlib.Omega.{arith}
+use Rattle.lists.specs.Alias.{Places}
+use Rattle.refusal.specs.declared.Fault.{Fault}
+use Rattle.refusal.specs.Fault.{fault}
+use Rattle.refusal.specs.Answer.{Answer, given, refused}
+use Rattle.format.specs.Place.{linkable}
+use Rattle.chain.specs.Walk.{Pages, Walk, full, waiting, inFront, walk, walkFrom}
+use Rattle.lists.proofs.Choice.{cond-holds}
+use Rattle.chain.proofs.WalkStep.{readThen, behind, step-holds}
+
+-- a fault of the chain that starts at first
+pub data ChainFault (pages : Pages) (first : ℕ) : Fault → Type 0 where
+  firstOutside : linkable (pages .pageCount) first ≡ false → ChainFault pages first (fault 11 0)
+  nextOutside : (page : ℕ) → linkable (pages .pageCount) page ≡ true → pages .held page ≡ true → linkable (pages .pageCount) (pages .next page) ≡ false
+      → ChainFault pages first (fault 11 page)
+  pageFault : (page : ℕ) {f : Fault} → linkable (pages .pageCount) page ≡ true → pages .held page ≡ true → pages .read page ≡ refused f
+      → ChainFault pages first f
+  loop : ChainFault pages first (fault 16 0)
+
+module _ (pages : Pages) (first : ℕ) where
+  -- a refusal of the walk is such a fault
+  abbrev FaultBy : Walk Places → Type 0
+  FaultBy (given (full rows n)) = Unit {0}
+  FaultBy (given (waiting page rows n)) = Unit {0}
+  FaultBy (refused f) = ChainFault pages first f
+
+  -- where the link to a page stands
+  abbrev Linked : ℕ → ℕ → Type 0
+  Linked holder page =
+      ((holder ≡ 0) × (page ≡ first)) ⊎ ((linkable (pages .pageCount) holder ≡ true) × (pages .held holder ≡ true) × (page ≡ pages .next holder))
+
+  outside : (holder page : ℕ) → Linked holder page → linkable (pages .pageCount) page ≡ false → ChainFault pages first (fault 11 holder)
+  outside holder page l o =
+      ⊎-elim (λ d. rw (d .0) (firstOutside (rw (d .1) at o))) (λ d. nextOutside holder (d .0) (d .1) (rw (d .2) at o)) l
+
+  fault-front : (rows : List ℕ) (w : Walk Places) → FaultBy w → FaultBy (inFront rows w)
+  fault-front rows (given (full rest n)) p = tt
+  fault-front rows (given (waiting page rest n)) p = tt
+  fault-front rows (refused f) p = p
+
+  fault-read : (page : ℕ) (r : Answer Places) → pages .read page ≡ r → linkable (pages .pageCount) page ≡ true → pages .held page ≡ true
+      → (w : Walk Places) → FaultBy w → FaultBy (readThen r w)
+  fault-read page (given rows) e i h w p = fault-front rows w p
+  fault-read page (refused f) e i h w p = pageFault page i h e
+
+  walk-fault : (fuel : ℕ) (met : List ℕ) (holder page : ℕ) → Linked holder page → FaultBy (walk pages fuel met holder page)
+  unfolding walk behind
+  walk-fault zero met holder page l = loop
+  walk-fault (suc fuel) met holder page l =
+      step-holds pages fuel met holder page FaultBy (outside holder page l) loop (λ _ _ _. tt)
+      (λ i m h. fault-read page (pages .read page) refl i h (behind pages fuel met holder page)
+      (cond-holds FaultBy (pages .isLast page) (λ _. tt)
+      (λ _. walk-fault fuel (page ∷ met) page (pages .next page) (inr (i, h, refl)))))
+
+  from-fault : FaultBy (walkFrom pages first)
+  unfolding walkFrom
+  from-fault = walk-fault (suc (pages .pageCount)) [] 0 first (inl (refl, refl))
+
+  pub chain-fault : (f : Fault) → walkFrom pages first ≡ refused f → ChainFault pages first f
+  chain-fault f e = subst FaultBy e from-fault
+
+-- its number and what it carries: 0, or a page of the file
+pub record Numbered (count : ℕ) (f : Fault) : Type 0 where
+  pub low : 11 ≤ f .number
+  pub high : f .number ≤ 16
+  pub carries : (f .carries ≡ 0) ⊎ (linkable count (f .carries) ≡ true)
+  pub loopCarries : f .number ≡ 16 → f .carries ≡ 0
+
+-- where a page's faults are 12 to 15 and carry the page
+pub fault-numbered : (pages : Pages) (first : ℕ)
+    → ((page : ℕ) (f : Fault) → pages .read page ≡ refused f → (12 ≤ f .number) × (f .number ≤ 15) × (f .carries ≡ page))
+    → (f : Fault) → ChainFault pages first f → Numbered (pages .pageCount) f
+fault-numbered pages first reads f (firstOutside o) = record { low = omega arith; high = omega arith; carries = inl refl; loopCarries = λ e. refl }
+fault-numbered pages first reads f (nextOutside page i h o) =
+    record { low = omega arith; high = omega arith; carries = inr i; loopCarries = λ e. absurd (omega arith) }
+fault-numbered pages first reads f (pageFault page i h e) =
+    let r = reads page f e in
+    record { low = omega arith; high = omega arith; carries = inr (rw (r .2) i); loopCarries = λ l. absurd (omega arith) }
+fault-numbered pages first reads f loop = record { low = omega arith; high = omega arith; carries = inl refl; loopCarries = λ e. refl }

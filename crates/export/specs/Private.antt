@@ -1,0 +1,40 @@
+-- Definitions that only the contracts of private functions and the proofs cite.
+use mathlib.Core.Bool.{cond}
+use Prim.Native.Nat.{ℕ}
+use Rattle.refusal.specs.Fault.{fault, faultOf}
+use Rattle.refusal.specs.Answer.{Answer, given, refused}
+use Rattle.bitmap.specs.Bit.{bit}
+use Rattle.intake.specs.Memory.{Memory, blockAt}
+use Rattle.directory.specs.declared.Directory.{Directory}
+use Rattle.directory.specs.Directory.{noDirectory, readHeader}
+use Rattle.lists.specs.Nth.{Nth, element, past}
+use Rattle.export.specs.declared.RowReply.{RowReply}
+use Rattle.export.specs.declared.RowReply.the-variants.{Found, Waiting, Refused}
+use Rattle.export.specs.Found as row
+
+-- the directory that a walk goes by
+unfoldable pub walkDirectory : ℕ → Memory → Directory
+walkDirectory len m = cond (bit (m .map) 0) (readHeader len (blockAt (m .image) 0) .directory) noDirectory
+
+-- where a row is, and the size of its page
+pub record RowPlace : Type 0 where
+  pub place : ℕ
+  pub size : ℕ
+
+abbrev pub rowPlace : (size place : ℕ) → RowPlace
+rowPlace size place = record { place = place; size = size }
+
+-- the answer for a row that is asked for its place
+abbrev pub rowAt : (size place : ℕ) → Answer (row.Found RowPlace)
+rowAt size place = given (row.found (rowPlace size place))
+
+-- row k that was counted is found; 18 where it was not
+abbrev pub atPlace : ℕ → Nth → Answer (row.Found RowPlace)
+atPlace size (element place) = rowAt size place
+atPlace size (past rows) = refused (fault 18 0)
+
+-- the answer for each case of the code's enum
+abbrev pub rowReplyOf : RowReply → Answer (row.Found RowPlace)
+rowReplyOf (Found place size) = rowAt size place
+rowReplyOf (Waiting page rows pages) = given (row.waiting page rows pages)
+rowReplyOf (Refused refusal) = refused (faultOf refusal)

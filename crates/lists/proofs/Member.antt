@@ -1,0 +1,77 @@
+-- Laws of `isMember`, and that numbers in 1..n-1 which differ from each other are at most n-1 (the pigeonhole).
+--     member-first, member-more, member-cases     a list with one number more
+--     Distinct, distinct-few                      numbers that differ, and how many there can be
+use mathlib.Core.Path.{_≡_, refl, sym}
+use mathlib.Core.Bool.{true, false, cond}
+use mathlib.Core.List.{List, [], _∷_}
+use mathlib.Core.Logic.{_⊎_, inl, inr}
+use Prim.Native.Nat.{ℕ, zero, suc, _+_, _-_, _<_, _≤_}
+use native.Mathlib.Omega.{arith}
+use lib.ListN.{length}
+use lib.Dec.{eqb}
+use borrow.Author.Tests.{eq-eqb, ne-eqb, eqb-true, eqb-false}
+use Rattle.lists.specs.Member.{isMember}
+use Rattle.lists.proofs.Choice.{on, or-right}
+
+pub member-first : (x : ℕ) (xs : List ℕ) → isMember x (x ∷ xs) ≡ true
+unfolding isMember
+member-first x xs = rw (eq-eqb x x refl)
+
+pub member-more : (x y : ℕ) (ys : List ℕ) → isMember x ys ≡ true → isMember x (y ∷ ys) ≡ true
+unfolding isMember
+member-more x y ys e = or-right (eqb x y) e
+
+pub member-cases : (x y : ℕ) (ys : List ℕ) → isMember x (y ∷ ys) ≡ true → (x ≡ y) ⊎ (isMember x ys ≡ true)
+unfolding isMember
+member-cases x y ys e = on (eqb x y) (λ f. inl (eqb-true x y f)) (λ f. inr (rw f at e))
+
+member-other : (x y : ℕ) (ys : List ℕ) → (x ≡ y → ⊥) → isMember x (y ∷ ys) ≡ isMember x ys
+unfolding isMember
+member-other x y ys h = rw (ne-eqb x y h)
+
+-- each differs from those behind it
+abbrev pub Distinct : List ℕ → Type 0
+Distinct [] = Unit {0}
+Distinct (x ∷ xs) = (isMember x xs ≡ false) × Distinct xs
+
+-- how many of the numbers below n are members
+membersBelow : ℕ → List ℕ → ℕ
+membersBelow zero xs = 0
+membersBelow (suc n) xs = membersBelow n xs + cond (isMember n xs) 1 0
+
+below-none : (n : ℕ) → membersBelow n [] ≡ 0
+unfolding isMember membersBelow
+below-none zero = refl
+below-none (suc n) = rw (below-none n)
+
+below-same : (n x : ℕ) (xs : List ℕ) → n ≤ x → membersBelow n (x ∷ xs) ≡ membersBelow n xs
+unfolding membersBelow
+below-same zero x xs h = refl
+below-same (suc n) x xs h = rw (below-same n x xs (omega arith), member-other n x xs (λ e. omega arith))
+
+below-add : (n x : ℕ) (xs : List ℕ) → isMember x xs ≡ false → x < n → membersBelow n (x ∷ xs) ≡ membersBelow n xs + 1
+unfolding membersBelow
+below-add zero x xs e h = absurd (omega arith)
+below-add (suc n) x xs e h =
+    on (eqb n x)
+    (λ f. let same = eqb-true n x f in rw (same, member-first x xs, e, below-same x x xs (omega arith)) (omega arith))
+    (λ f. let other = eqb-false n x f in rw (member-other n x xs other, below-add n x xs e (omega arith)) (omega arith))
+
+-- 0 is no member, so below n there are at most n - 1
+below-few : (n : ℕ) (xs : List ℕ) → isMember 0 xs ≡ false → membersBelow n xs ≤ n - 1
+unfolding membersBelow
+below-few zero xs e = omega arith
+below-few (suc zero) xs e = rw e (omega arith)
+below-few (suc (suc n)) xs e =
+    let h = below-few (suc n) xs e in
+    on (isMember (suc n) xs) (λ f. rw f (omega arith)) (λ f. rw f (omega arith))
+
+below-all : (n : ℕ) (xs : List ℕ) → Distinct xs → ((x : ℕ) → isMember x xs ≡ true → (1 ≤ x) × (x < n)) → length xs ≡ membersBelow n xs
+below-all n [] d h = sym (below-none n)
+below-all n (x ∷ xs) d h =
+    let rest = below-all n xs (d .1) (λ y e. h y (member-more y x xs e)) in
+    omega (arith, below-add n x xs (d .0) (h x (member-first x xs) .1))
+
+pub distinct-few : (n : ℕ) (xs : List ℕ) → Distinct xs → ((x : ℕ) → isMember x xs ≡ true → (1 ≤ x) × (x < n)) → length xs ≤ n - 1
+distinct-few n xs d h =
+    omega (arith, below-all n xs d h, below-few n xs (on (isMember 0 xs) (λ e. absurd (omega (arith, h 0 e .0))) (λ e. e)))

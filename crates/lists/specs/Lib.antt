@@ -1,0 +1,5 @@
+pub mod Alias
+pub mod Any
+pub mod Write
+pub mod Nth
+pub mod Member

@@ -1,0 +1,18 @@
+-- Section 7: when two lists of bytes agree on relevant bytes, those that an answer may depend on.
+-- A definition's agreement law says that lists which agree on the bytes that it names give the same result.
+use mathlib.Core.Path.{_≡_}
+use mathlib.Core.Bool.{Bool, true, _&&_}
+use Prim.Native.Nat.{ℕ, _+_}
+use lib.ListN.{length}
+use lib.Dec.{leb, ltb}
+use Rattle.lists.specs.Alias.{Bytes}
+use Rattle.number.specs.Number.{byteAt}
+
+-- is true exactly when byte i is one of the size bytes that start at from
+unfoldable pub within : (from size i : ℕ) → Bool
+within from size i = leb from i && ltb i (from + size)
+
+-- s and t have one length, and their relevant bytes are equal
+pub record Agree (relevant : ℕ → Bool) (s t : Bytes) : Type 0 where
+  pub long : length s ≡ length t
+  pub same : (i : ℕ) → relevant i ≡ true → byteAt s i ≡ byteAt t i

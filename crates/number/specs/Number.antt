@@ -1,0 +1,15 @@
+-- Rules 1.2, 1.3: a number's value at an offset of some bytes, the low byte first. A byte past the end is taken for 0.
+use Prim.Native.Nat.{ℕ, _+_, _*_}
+use lib.ListN.{getD}
+use Rattle.lists.specs.Alias.{Bytes}
+
+abbrev pub byteAt : (s : Bytes) (at : ℕ) → ℕ
+byteAt s at = getD s at 0
+
+-- two bytes, the low one first
+unfoldable pub le16 : (s : Bytes) (at : ℕ) → ℕ
+le16 s at = byteAt s at + 256 * byteAt s (at + 1)
+
+-- four bytes: two numbers of two bytes, the low one first
+unfoldable pub le32 : (s : Bytes) (at : ℕ) → ℕ
+le32 s at = le16 s at + 65536 * le16 s (at + 2)

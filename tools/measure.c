@@ -1,0 +1,79 @@
+/*
+ * Calls each function of the library on a stack of its own that is filled with a pattern, and prints how deep it went, with
+ * the arguments on the stack. Reads the export that the calls are about from standard input.
+ *
+ * It has to be linked with -z now: otherwise the first call of memcpy goes through the dynamic linker, which takes more
+ * stack than the library.
+ */
+#define _GNU_SOURCE
+#include <stdio.h>
+#include <string.h>
+#include <ucontext.h>
+
+#include "sarvoltig.h"
+
+enum { LEN = 27648, BLOCKS = LEN / SARVOLTIG_BLOCK, WORDS = SARVOLTIG_MAP_WORDS(LEN), ROOM = 1000, N = SARVOLTIG_RESULT };
+enum { OPEN, DELIVER, ROWS, RECORD, TEXT, CALLS };
+
+static const char *const names[] = {"sarvoltig_open", "sarvoltig_deliver", "sarvoltig_rows", "sarvoltig_record", "sarvoltig_text"};
+static uint8_t file[LEN], image[LEN], stack[1 << 16];
+static uint64_t map[WORDS], result[N];
+static uint32_t list[ROOM];
+static ucontext_t caller, callee;
+static int call;
+static uint8_t *frame;
+
+static void make_call(void)
+{
+    frame = (uint8_t *)__builtin_frame_address(0);
+    switch (call) {
+    case OPEN:
+        sarvoltig_open(LEN, image, LEN, map, WORDS, result, N);
+        break;
+    case DELIVER:
+        sarvoltig_deliver(LEN, image, LEN, map, WORDS, 0, file, SARVOLTIG_BLOCK, result, N);
+        break;
+    case ROWS:
+        sarvoltig_rows(LEN, image, LEN, map, WORDS, SARVOLTIG_TRACKS, list, ROOM, result, N);
+        break;
+    case RECORD:
+        sarvoltig_record(LEN, image, LEN, map, WORDS, SARVOLTIG_TRACKS, 20, result, N);
+        break;
+    default:
+        sarvoltig_text(LEN, image, LEN, map, WORDS, SARVOLTIG_TRACKS, 20, SARVOLTIG_SLOT_TITLE, result, N);
+    }
+}
+
+static void deliver_rest(void)
+{
+    uint64_t block;
+
+    for (block = 1; block < BLOCKS; block++) {
+        sarvoltig_deliver(LEN, image, LEN, map, WORDS, block, file + SARVOLTIG_BLOCK * block, SARVOLTIG_BLOCK, result, N);
+    }
+}
+
+int main(void)
+{
+    size_t untouched;
+
+    if (fread(file, 1, LEN, stdin) != LEN) {
+        return 1;
+    }
+    for (call = 0; call < CALLS; call++) {
+        memset(stack, 0xa5, sizeof stack);
+        getcontext(&callee);
+        callee.uc_stack.ss_sp = stack;
+        callee.uc_stack.ss_size = sizeof stack;
+        callee.uc_link = &caller;
+        makecontext(&callee, make_call, 0);
+        swapcontext(&caller, &callee);
+        for (untouched = 0; stack[untouched] == 0xa5; untouched++) {
+        }
+        printf("%s %ld\n", names[call], (long)(frame - (stack + untouched)));
+        if (call == DELIVER) {
+            deliver_rest();
+        }
+    }
+    return 0;
+}
