@@ -37,7 +37,7 @@ firstBlockByte m i = bit (m .map) 0 && directoryByte (blockAt (m .image) 0) i
 unfoldable pub tableByte : (len : ℕ) (m : Memory) (table : Table) (i : ℕ) → Bool
 tableByte len m table i = firstBlockByte m i || walkedByte len m table i
 
--- 19 comes before the file (rule 5.25)
+-- Rules 2.28, 5.25: 19 comes before the file
 abbrev pub withSlot : ℕ → Table → Answer Table
 withSlot slot table = refuseIf (not (ltb slot (slotCount table))) (fault 19 0) (given table)
 
