@@ -7,7 +7,7 @@ use Rattle.row.specs.Record.{RowRecord}
 use Rattle.intake.specs.Open.{OpenedFile, opened}
 use Rattle.intake.specs.Deliver.{Taken, taken, new, same}
 use Rattle.chain.specs.Walk.{Progress, full, waiting}
-use Rattle.export.specs.Found as row
+use Rattle.chain.specs.Found as row
 use Rattle.export.specs.Text.{TextPlace}
 use Rattle.c_interface.specs.Code as code
 use Rattle.c_interface.specs.Reply.{Reply, reply}

@@ -1,5 +1,5 @@
-// The C interface: opening, delivery and the three questions, over numbers and slices. Each function returns a code and
-// writes the answer's values to the front of the result, as many as it takes.
+// The C interface: opening, delivery, the three questions and reading from a list, over numbers and slices. Each function
+// returns a code and writes the answer's values to the front of the result, as many as it takes.
 ghost use mathlib.Core.Path.{_≡_};
 ghost use mathlib.Core.List.{[], _∷_};
 ghost use Rattle.lists.specs.Write.{written};
@@ -13,6 +13,7 @@ ghost use Rattle.chain.specs.Tally.{walkedOf};
 ghost use Rattle.export.specs.Rows.{askRows};
 ghost use Rattle.export.specs.Record.{askRecord, recordReplyOf};
 ghost use Rattle.export.specs.Text.{askText, textReplyOf};
+ghost use Rattle.export.specs.FromList.{askRecordIn, askTextIn};
 ghost use Rattle.c_interface.specs.Code.{done};
 ghost use Rattle.c_interface.specs.Reply.{reply, replyTo, Replied};
 ghost use Rattle.c_interface.specs.Replies.{openReply, deliverReply, waitReply, walkReply, recordReply, encodingNumber, textReply};
@@ -276,6 +277,26 @@ pub extern "C" fn sarvoltig_record(
     )
 }
 
+// Asks for the record of the row that entry i of a list names.
+#[no_mangle]
+pub extern "C" fn sarvoltig_record_in(
+    len: u64,
+    image: &[u8],
+    map: &[u64],
+    table: u32,
+    list: &[u32],
+    i: u64,
+    result: &mut [u64],
+) -> u32
+    ensures { λ r. ⌜ Replied (replyTo recordReply (askRecordIn len (memory (now (image .entry)) (now (map .entry))) table (now (list .entry)) i)) r
+        (now (result .entry)) (now (result .exit)) ⌝ }
+{
+    reply_record(
+        export::record_in(Intake::new(len), image, map, table, list, i as usize),
+        result,
+    )
+}
+
 // Asks for a string slot of record k of a table.
 #[no_mangle]
 pub extern "C" fn sarvoltig_text(
@@ -297,6 +318,35 @@ pub extern "C" fn sarvoltig_text(
             map,
             table,
             k as usize,
+            slot as usize,
+        ),
+        result,
+    )
+}
+
+// Asks for a string slot of the row that entry i of a list names.
+#[no_mangle]
+pub extern "C" fn sarvoltig_text_in(
+    len: u64,
+    image: &[u8],
+    map: &[u64],
+    table: u32,
+    list: &[u32],
+    i: u64,
+    slot: u64,
+    result: &mut [u64],
+) -> u32
+    ensures { λ r. ⌜ Replied (replyTo textReply (askTextIn len (memory (now (image .entry)) (now (map .entry))) table (now (list .entry)) i slot)) r
+        (now (result .entry)) (now (result .exit)) ⌝ }
+{
+    reply_text(
+        export::text_in(
+            Intake::new(len),
+            image,
+            map,
+            table,
+            list,
+            i as usize,
             slot as usize,
         ),
         result,

@@ -2,8 +2,10 @@
 --     part-past, part-cut, part-whole     the slices that the code borrows
 --     part-short                          the part is no longer than len_page
 --     part-next                           next_page, read from the part
+--     page-of, start-of                   a place by its page and its start there
 use mathlib.Core.Path.{_≡_, ap, sym, _∙_}
-use Prim.Native.Nat.{ℕ, _+_, _-_, _*_, _<_, _≤_}
+use Prim.Native.Nat.{ℕ, _+_, _-_, _*_, _/_, _%_, _<_, _≤_}
+use native.Mathlib.Nat.{div-add-mod', div-eq-of-lt-le, suc-mul}
 use native.Mathlib.Omega.{arith}
 use lib.ListN.{length, take, drop, length-drop, length-take, drop-of-length-le}
 use lib.Seq.{take-all, take-nil}
@@ -47,3 +49,13 @@ pub part-next : {page : Bytes} {next : ℕ} (size : ℕ) (image : Bytes) (number
     → next ≡ pageNext size image number
 unfolding pageNext
 part-next size image number p e = e ∙ ap next-page p
+
+-- a place on a page by the page's number and the row's start
+pub page-of : (size number start : ℕ) → start < size → (number * size + start) / size ≡ number
+page-of size number start h = div-eq-of-lt-le size (omega arith) (omega (arith, suc-mul number size))
+
+pub start-of : (size number start : ℕ) → start < size → (number * size + start) % size ≡ start
+start-of size number start h =
+    let place = number * size + start in
+    let whole : number * size + place % size ≡ place = rw (page-of size number start h) at (div-add-mod' place size) in
+    omega arith

@@ -1,4 +1,5 @@
 pub mod Walk
+pub mod Found
 pub mod Begins
 pub mod Along
 pub mod Tally

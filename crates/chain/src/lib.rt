@@ -37,7 +37,7 @@ pub enum Place {
 }
 
 // Whether every block of a page is held.
-fn is_held(size: u32, number: u32, map: &[u64]) -> bool
+pub fn is_held(size: u32, number: u32, map: &[u64]) -> bool
     ensures { λ r. ⌜ r ≡ pageHeld size (now (map .entry)) number ⌝ }
 {
     let blocks = (size as u64) / (Block::SIZE as u64);

@@ -12,13 +12,13 @@ use Rattle.table.specs.declared.Table.{Table}
 use Rattle.table.specs.Table.{slotCount}
 use Rattle.intake.specs.Check.{checkLengths, checkCall}
 use Rattle.intake.specs.Memory.{Memory, memory}
-use Rattle.export.specs.Asked.{askedTable}
+use Rattle.export.specs.Asked.{askedTable, withSlot, askedSlot}
 use Rattle.export.specs.Walk.{tableWalk}
 use Rattle.export.specs.Rows.{settleRows, askRows}
 use Rattle.export.specs.Record.{recordIn, askRecord}
 use Rattle.export.specs.Text.{textIn, askText}
 use Rattle.run.specs.Call.{Question, allRows, oneRecord, oneText, rows, row, text}
-use Rattle.depend.specs.Bytes.{withSlot, relevantIn, relevant}
+use Rattle.depend.specs.Bytes.{relevantIn, relevant}
 use Rattle.depend.specs.Depend.{DecidedBy, SameRows, EveryQuestion}
 use Rattle.lists.proofs.Choice.{on}
 use Rattle.number.proofs.NumberAgree.{agree-less}
@@ -57,12 +57,12 @@ module _ (len : ℕ) (map : Words) (s t : Bytes) where
       by (given table) e b = record-row len map s t table b (asked-sound len m number e) k
       by (refused f) e b = refl
 
-  text-agree : (number k slot : ℕ) → Agree (relevantIn len m (andThen (askedTable len m number) (withSlot slot))) s t
+  text-agree : (number k slot : ℕ) → Agree (relevantIn len m (askedSlot len m number slot)) s t
       → askText len m number k slot ≡ askText len n number k slot
   unfolding askText
   text-agree number k slot a = rw (← asked-same (a .long) number) (by (askedTable len m number) refl a)
     where
-      by : (x : Answer Table) → x ≡ askedTable len m number → Agree (relevantIn len m (andThen x (withSlot slot))) s t
+      by : (x : Answer Table) → x ≡ askedTable len m number → Agree (relevantIn len m (andThen x (λ table. withSlot slot table (given table)))) s t
           → andThen x (textIn len m k slot) ≡ andThen x (textIn len n k slot)
       by (given table) e b =
           on (ltb slot (slotCount table)) (λ h. rw h (text-row len map s t table (rw h at b) (asked-sound len m number e) k slot)) (λ h. rw h)

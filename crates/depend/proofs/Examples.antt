@@ -14,7 +14,7 @@ use Rattle.row.specs.Bytes.{slotByte, subtypeByte, rowByte}
 use Rattle.page.specs.Header.{headerAgrees, rowless, entries}
 use Rattle.page.specs.Index.{indexSize, flagsAt, offsetAt, present, rowStart, presentFrom}
 use Rattle.page.specs.Read.{indexFits, beforeIndex, rowStarts, checkRows, readPage}
-use Rattle.page.specs.Bytes.{headerByte, rowByteAt, entryByte, entriesByte, pageByte}
+use Rattle.page.specs.Bytes.{headerByte, rowByteAt, indexByte, entryByte, entriesByte, pageByte}
 use Rattle.intake.specs.Length.{allowedLength}
 use Rattle.bitmap.specs.Spare.{spareBit}
 use Rattle.bitmap.specs.Bit.{bit}
@@ -36,7 +36,7 @@ use Rattle.depend.specs.Examples.{examples, ExamplesHold}
 pub examples-hold : ExamplesHold examples
 unfolding le16 le32 anyFrom isMember within linkable headSize wholeSize textBehind readText textByte tableOf artistLayout checkTexts checkRow
     slotByte subtypeByte rowByte headerAgrees rowless entries indexSize flagsAt offsetAt present rowStart presentFrom
-    indexFits beforeIndex rowStarts checkRows readPage headerByte rowByteAt entryByte entriesByte pageByte
+    indexFits beforeIndex rowStarts checkRows readPage headerByte rowByteAt indexByte entryByte entriesByte pageByte
     allowedLength spareBit bit checkLengths checkCall blockAt allowedPage allowedTables hasType typeTwice tablesHold headerHolds
     pointersFrom kept pointerAmong chainIn tableChain directoryByte blockMissing pageHeld pagePart pageNext
     comesTo goesOn reads readsFrom askedTable tableReads walkedByte firstBlockByte tableByte relevant

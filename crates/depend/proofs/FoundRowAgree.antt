@@ -14,7 +14,7 @@ use Rattle.intake.specs.Private.{Sound}
 use Rattle.intake.specs.Memory.{Memory, memory}
 use Rattle.chain.specs.File.{pagePart}
 use Rattle.export.specs.Walk.{pageSize, tableWalk}
-use Rattle.export.specs.Found.{Found, found}
+use Rattle.chain.specs.Found.{Found, found}
 use Rattle.export.specs.Row.{settleRow, rowPart}
 use Rattle.export.specs.Record.{recordAt}
 use Rattle.export.specs.Text.{textFound, textOn, textAt}

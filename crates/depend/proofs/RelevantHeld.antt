@@ -20,11 +20,11 @@ use Rattle.intake.specs.Memory.{Memory, blockAt}
 use Rattle.directory.specs.Header.{num-tables, pointerAt, allowedTables}
 use Rattle.directory.specs.Bytes.{directoryByte}
 use Rattle.chain.specs.Held.{blocksInPage}
-use Rattle.export.specs.Asked.{askedTable}
+use Rattle.export.specs.Asked.{askedTable, withSlot}
 use Rattle.export.specs.Walk.{pageSize}
 use Rattle.export.specs.Reads.{tableReads}
 use Rattle.run.specs.Call.{Question, allRows, oneRecord, oneText}
-use Rattle.depend.specs.Bytes.{pageAt, pageWith, walkedByte, firstBlockByte, tableByte, withSlot, relevantIn, relevant}
+use Rattle.depend.specs.Bytes.{pageAt, pageWith, walkedByte, firstBlockByte, tableByte, relevantIn, relevant}
 use Rattle.depend.specs.Unread.{heldByte}
 use Rattle.lists.proofs.Choice.{on, both-true}
 use Rattle.number.proofs.NumberAgree.{within-both}
@@ -78,7 +78,7 @@ module _ (len : ℕ) (m : Memory) where
   asked-held number (given table) e i h = table-held (asked-sound len m number e) table i h
   asked-held number (refused f) e i h = absurd (false≢true h)
 
-  slot-held : (number slot : ℕ) (x : Answer Table) → x ≡ askedTable len m number → (i : ℕ) → relevantIn len m (andThen x (withSlot slot)) i ≡ true
+  slot-held : (number slot : ℕ) (x : Answer Table) → x ≡ askedTable len m number → (i : ℕ) → relevantIn len m (andThen x (λ t. withSlot slot t (given t))) i ≡ true
       → heldByte len (m .map) i ≡ true
   slot-held number slot (given table) e i h =
       on (ltb slot (slotCount table)) (λ l. asked-held number (given table) e i (rw l at h)) (λ l. absurd (false≢true (rw l at h)))

@@ -17,7 +17,7 @@ use Rattle.table.specs.declared.Table.{Table}
 use Rattle.page.specs.Header.{entries}
 use Rattle.page.specs.Index.{indexSize, flagsAt, offsetAt, present, rowStart}
 use Rattle.page.specs.Read.{beforeIndex}
-use Rattle.page.specs.Bytes.{headerByte, rowByteAt, entryByte, entriesByte, pageByte}
+use Rattle.page.specs.Bytes.{headerByte, rowByteAt, indexByte, entryByte, entriesByte, pageByte}
 use Rattle.intake.specs.Memory.{Memory, blockAt}
 use Rattle.directory.specs.Bytes.{directoryByte}
 use Rattle.export.specs.Walk.{pageSize}
@@ -56,11 +56,11 @@ module _ (table : Table) (page : Bytes) (i : ℕ) (rows : heapStart ≤ i) (inde
   not-offset j h = within-false (offsetAt page j) 2 i (λ k l. omega (arith, entry-room (entries page) j h))
 
   not-entry : inPresentRow table page i ≡ false → (j : ℕ) → j < entries page → entryByte table page j i ≡ false
-  unfolding entryByte inPresentRow
+  unfolding entryByte indexByte inPresentRow
   not-entry e j h =
       let inRow : ℕ → Bool = λ k. present page k && rowByteAt table (beforeIndex page) (rowStart page k) i in
       let row = any-not inRow (entries page) 0 j e (omega arith) (omega arith) in
-      rw (not-flags j h, not-offset j h, row)
+      simp (not-flags j h, not-offset j h, row, and-false)
 
   not-page : (number : ℕ) → inPresentRow table page i ≡ false → pageByte number table page i ≡ false
   unfolding pageByte entriesByte

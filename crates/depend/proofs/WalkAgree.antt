@@ -27,10 +27,9 @@ use Rattle.lists.proofs.Choice.{both-true, cond-agree, or-right}
 use Rattle.number.proofs.NumberAgree.{agree-less, agree-inside, take-agree, drop-agree}
 use Rattle.directory.proofs.HeaderAgree.{size-agree, chain-agree}
 use Rattle.directory.proofs.ChainAnswer.{chain-given}
-use Rattle.chain.proofs.PagePart.{part-short}
+use Rattle.chain.proofs.PagePart.{part-short, page-of, start-of}
 use Rattle.chain.proofs.FileAgree.{PageAgrees, chain-walk-agree}
 use Rattle.export.proofs.PageWalked.{reads-table}
-use Rattle.export.proofs.FoundRow.{page-of, start-of}
 
 module _ (len : ℕ) (map : Words) (s t : Bytes) (table : Table) (a : Agree (tableByte len (memory s map) table) s t) where
   abbrev m : Memory

@@ -1,19 +1,16 @@
 -- Rules 7.1 to 7.7 and 7.12: the relevant bytes of the image, those that the answer to a question may depend on.
 -- Rests on the relevant bytes of block 0 and of a page (directory/Bytes, page/Bytes) and on the pages that a walk reads (export/Reads).
-use mathlib.Core.Bool.{Bool, false, not, _&&_, _||_}
+use mathlib.Core.Bool.{Bool, false, _&&_, _||_}
 use Prim.Native.Nat.{ℕ, _/_, _%_}
-use lib.Dec.{ltb}
 use Rattle.lists.specs.Alias.{Bytes}
-use Rattle.refusal.specs.Fault.{fault}
-use Rattle.refusal.specs.Answer.{Answer, given, refused, refuseIf, andThen}
+use Rattle.refusal.specs.Answer.{Answer, given, refused}
 use Rattle.table.specs.declared.Table.{Table}
-use Rattle.table.specs.Table.{slotCount}
 use Rattle.page.specs.Bytes.{pageByte}
 use Rattle.bitmap.specs.Bit.{bit}
 use Rattle.intake.specs.Memory.{Memory, blockAt}
 use Rattle.directory.specs.Bytes.{directoryByte}
 use Rattle.chain.specs.File.{pagePart}
-use Rattle.export.specs.Asked.{askedTable}
+use Rattle.export.specs.Asked.{askedTable, askedSlot}
 use Rattle.export.specs.Walk.{pageSize}
 use Rattle.export.specs.Reads.{tableReads}
 use Rattle.run.specs.Call.{Question, allRows, oneRecord, oneText}
@@ -37,15 +34,11 @@ firstBlockByte m i = bit (m .map) 0 && directoryByte (blockAt (m .image) 0) i
 unfoldable pub tableByte : (len : ℕ) (m : Memory) (table : Table) (i : ℕ) → Bool
 tableByte len m table i = firstBlockByte m i || walkedByte len m table i
 
--- Rules 2.28, 5.25: 19 comes before the file
-abbrev pub withSlot : ℕ → Table → Answer Table
-withSlot slot table = refuseIf (not (ltb slot (slotCount table))) (fault 19 0) (given table)
-
 -- Rule 2.28: the table whose chain a question walks, if it is not refused before the file
 abbrev pub walkedTable : (len : ℕ) (m : Memory) (q : Question) → Answer Table
 walkedTable len m (allRows number list) = askedTable len m number
 walkedTable len m (oneRecord number k) = askedTable len m number
-walkedTable len m (oneText number k slot) = andThen (askedTable len m number) (withSlot slot)
+walkedTable len m (oneText number k slot) = askedSlot len m number slot
 
 -- Rule 7.12: where no chain is walked, no byte is relevant
 abbrev pub relevantIn : (len : ℕ) (m : Memory) (table : Answer Table) (i : ℕ) → Bool

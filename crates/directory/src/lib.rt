@@ -141,8 +141,8 @@ fn tables_hold(block: &[u8], n: u32) -> bool
     }
 }
 
-// Whether none of the rules for 9 is broken.
-fn header_holds(block: &[u8], len: u64) -> bool
+// Whether none of the rules for 9 is broken, in a file of len bytes with this block 0.
+pub fn header_holds(block: &[u8], len: u64) -> bool
     ensures { λ r. ⌜ r ≡ headerHolds len (now (block .entry)) ⌝ }
 {
     if number::u32_at(block, 0x00) != 0 {

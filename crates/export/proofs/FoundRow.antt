@@ -8,7 +8,6 @@ use mathlib.Core.Bool.{true}
 use mathlib.Core.List.{[], _∷_}
 use mathlib.Core.Option.{none}
 use Prim.Native.Nat.{ℕ, _+_, _*_, _/_, _%_, _<_}
-use native.Mathlib.Nat.{div-add-mod', div-eq-of-lt-le, suc-mul}
 use native.Mathlib.Omega.{arith}
 use lib.ListN.{length, drop, length-drop}
 use Rattle.lists.specs.Alias.{Bytes, Places}
@@ -34,6 +33,7 @@ use Rattle.page.proofs.RowStarts.{before-short}
 use Rattle.page.proofs.PageAnswer.{GoodPage, page-read, rows-good}
 use Rattle.intake.proofs.RulesPassed.{sound-accepted}
 use Rattle.directory.proofs.ChainAnswer.{chain-given}
+use Rattle.chain.proofs.PagePart.{page-of, start-of}
 use Rattle.export.proofs.SameBlocks.{MoreBlocks, first-same, part-length, part-same}
 use Rattle.export.proofs.TableWalk.{table-walk-holds}
 use Rattle.export.proofs.PageWalked.{PageWalked, reads-table, page-walked}
@@ -45,16 +45,6 @@ each-place : (P Q : ℕ → Type 0) (start : ℕ) (starts : Places) → ((s : �
 each-place P Q start [] one e = tt
 each-place P Q start (s ∷ starts) one e =
     (one s (member-first s starts) (e .0), each-place P Q start starts (λ r m. one r (member-more r s starts m)) (e .1))
-
--- a place on a page by the page's number and the row's start
-pub page-of : (size number start : ℕ) → start < size → (number * size + start) / size ≡ number
-page-of size number start h = div-eq-of-lt-le size (omega arith) (omega (arith, suc-mul number size))
-
-pub start-of : (size number start : ℕ) → start < size → (number * size + start) % size ≡ start
-start-of size number start h =
-    let place = number * size + start in
-    let whole : number * size + place % size ≡ place = rw (page-of size number start h) at (div-add-mod' place size) in
-    omega arith
 
 pub record FoundRow (len : ℕ) (m : Memory) (table : Table) (place : ℕ) : Type 0 where
   pub walked : tableReads len m table (place / pageSize m) ≡ true

@@ -5,7 +5,8 @@
 --     PageWalked, EachFound, FoundRow     the pages that it reads, and the rows that it finds
 --     WalkStart                           what is answered before the chain is walked
 --     TablePlaces                         the places on a table's chain are the rows found
---     RowsAnswer, RowAnswer, FromPlace, RowPart     the answer of a question by what the walk counted
+--     RowsAnswer, RowAnswer, RowPart      the answer of a question by what the walk counted
+--     ListedStart                         what reading from a list answers before and after the file header
 --     Questions                           the three questions: the same answers, and the faults of the file's own
 pub mod AskedTable
 pub mod SameBlocks
@@ -15,8 +16,8 @@ pub mod EachFound
 pub mod FoundRow
 pub mod WalkStart
 pub mod RowsAnswer
-pub mod FromPlace
 pub mod RowAnswer
 pub mod TablePlaces
 pub mod RowPart
+pub mod ListedStart
 pub mod Questions

@@ -30,7 +30,7 @@ use Rattle.chain.specs.Walk.{Progress, Walk, full, waiting}
 use Rattle.export.specs.OwnFault.{OwnFault}
 use Rattle.export.specs.Walk.{pageSize, tableWalk}
 use Rattle.export.specs.Rows.{rowsOutcome, rowsAnswer, settleRows, askRows}
-use Rattle.export.specs.Found as row
+use Rattle.chain.specs.Found as row
 use Rattle.export.specs.Row.{settleRow, rowPart}
 use Rattle.export.specs.Record.{recordAt, recordIn, askRecord}
 use Rattle.export.specs.Text.{textFound, textAt, textIn, askText}

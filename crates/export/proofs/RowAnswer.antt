@@ -13,14 +13,13 @@ use Rattle.refusal.specs.Fault.{fault}
 use Rattle.refusal.specs.Answer.{Answer, given, refused}
 use Rattle.chain.specs.Walk.{Progress, Walk, full, waiting}
 use Rattle.chain.specs.Tally.{tally}
-use Rattle.export.specs.Found as row
+use Rattle.chain.specs.Found as row
 use Rattle.export.specs.Rows.{rowsCounted}
 use Rattle.export.specs.Row.{settleRow}
 use Rattle.export.specs.Private.{RowPlace, rowPlace, rowAt, atPlace}
 use Rattle.lists.proofs.Choice.{on, never}
 use Rattle.chain.proofs.ChainPlaces.{Placed}
 use Rattle.export.proofs.RowsAnswer.{pagesCounted}
-use Rattle.export.proofs.FromPlace.{fromPlace}
 
 module _ (size k : ℕ) where
   pub row-found : (places : ℕ → Places) (w : Walk Places) {progress : Progress ℕ} → given progress ≡ tally w → k < rowsCounted progress → Placed places w
@@ -54,7 +53,7 @@ module _ (size k : ℕ) where
   row-refused (refused g) {f} e = let same : f ≡ g = cc in rw same
 
   pub by-place : {A : Type 0} (answer : RowPlace → Answer (row.Found A)) (w : Walk Places)
-      → fromPlace answer (settleRow (rowAt size) k w) ≡ settleRow (λ (place : ℕ). answer (rowPlace size place)) k w
+      → row.thenFound (settleRow (rowAt size) k w) answer ≡ settleRow (λ (place : ℕ). answer (rowPlace size place)) k w
   by-place answer (given (full rows q)) = on (ltb k (length rows)) (λ h. rw h) (λ h. rw h)
   by-place answer (given (waiting page rows q)) = on (ltb k (length rows)) (λ h. rw h) (λ h. rw h)
   by-place answer (refused f) = refl

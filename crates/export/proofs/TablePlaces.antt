@@ -36,7 +36,7 @@ use Rattle.chain.specs.Chain.{chainPlaces}
 use Rattle.export.specs.Walk.{pageSize, tableWalk}
 use Rattle.export.specs.Rows.{rowsOutcome, rowsCounted, settleRows}
 use Rattle.export.specs.Row.{settleRow}
-use Rattle.export.specs.Found.{Found}
+use Rattle.chain.specs.Found.{Found}
 use Rattle.export.specs.Private.{walkDirectory, RowPlace, rowAt, atPlace}
 use Rattle.lists.proofs.Choice.{on, never, both-true}
 use Rattle.intake.proofs.RulesPassed.{sound-accepted}

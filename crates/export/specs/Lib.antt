@@ -3,8 +3,8 @@ pub mod Asked
 pub mod Walk
 pub mod Reads
 pub mod Rows
-pub mod Found
 pub mod Row
 pub mod Record
 pub mod Text
+pub mod FromList
 pub mod Private

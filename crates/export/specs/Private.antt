@@ -1,8 +1,11 @@
 -- Definitions that only the contracts of private functions and the proofs cite.
 use mathlib.Core.Bool.{cond}
 use Prim.Native.Nat.{ℕ}
+use Rattle.lists.specs.Alias.{Bytes}
 use Rattle.refusal.specs.Fault.{fault, faultOf}
 use Rattle.refusal.specs.Answer.{Answer, given, refused}
+use Rattle.table.specs.declared.Table.{Table}
+use Rattle.row.specs.Record.{RowRecord, readRecord}
 use Rattle.bitmap.specs.Bit.{bit}
 use Rattle.intake.specs.Memory.{Memory, blockAt}
 use Rattle.directory.specs.declared.Directory.{Directory}
@@ -10,7 +13,8 @@ use Rattle.directory.specs.Directory.{noDirectory, readHeader}
 use Rattle.lists.specs.Nth.{Nth, element, past}
 use Rattle.export.specs.declared.RowReply.{RowReply}
 use Rattle.export.specs.declared.RowReply.the-variants.{Found, Waiting, Refused}
-use Rattle.export.specs.Found as row
+use Rattle.chain.specs.Found as row
+use Rattle.export.specs.Row.{rowPart}
 
 -- the directory that a walk goes by
 unfoldable pub walkDirectory : ℕ → Memory → Directory
@@ -38,3 +42,7 @@ abbrev pub rowReplyOf : RowReply → Answer (row.Found RowPlace)
 rowReplyOf (Found place size) = rowAt size place
 rowReplyOf (Waiting page rows pages) = given (row.waiting page rows pages)
 rowReplyOf (Refused refusal) = refused (faultOf refusal)
+
+-- the record of a row by where it is
+abbrev pub recordOn : (table : Table) (image : Bytes) (at : RowPlace) → Answer (row.Found RowRecord)
+recordOn table image at = given (row.found (readRecord table (rowPart (at .size) image (at .place))))

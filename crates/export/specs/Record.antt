@@ -9,7 +9,7 @@ use Rattle.export.specs.declared.RecordReply.{RecordReply}
 use Rattle.export.specs.declared.RecordReply.the-variants.{Found, Waiting, Refused}
 use Rattle.export.specs.Asked.{askedTable}
 use Rattle.export.specs.Walk.{pageSize, tableWalk}
-use Rattle.export.specs.Found as row
+use Rattle.chain.specs.Found as row
 use Rattle.export.specs.Row.{settleRow, rowPart}
 
 -- the record of the row at a place

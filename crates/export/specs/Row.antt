@@ -9,8 +9,8 @@ use Rattle.refusal.specs.Answer.{Answer, given, refused, refuseIf}
 use Rattle.page.specs.Read.{beforeIndex}
 use Rattle.chain.specs.Walk.{Walk, full, waiting}
 use Rattle.chain.specs.File.{pagePart}
-use Rattle.export.specs.Found as row
-use Rattle.export.specs.Found.{Found}
+use Rattle.chain.specs.Found as row
+use Rattle.chain.specs.Found.{Found}
 
 -- Rules 5.23 and 5.24: the answer for row k, by its place among the rows found
 abbrev pub settleRow : {A : Type 0} (answer : ℕ → Answer (Found A)) (k : ℕ) (walk : Walk Places) → Answer (Found A)

@@ -1,22 +1,19 @@
 -- The question for a string slot of record k of a table: rules 2.28, 5.22, 5.25 and 5.26.
-use mathlib.Core.Bool.{not}
 use Prim.Native.Nat.{ℕ, _+_, _/_}
-use lib.Dec.{ltb}
 use Rattle.lists.specs.Alias.{Bytes}
-use Rattle.refusal.specs.Fault.{fault, faultOf}
-use Rattle.refusal.specs.Answer.{Answer, given, refused, refuseIf, andThen}
+use Rattle.refusal.specs.Fault.{faultOf}
+use Rattle.refusal.specs.Answer.{Answer, given, refused, andThen}
 use Rattle.text.specs.declared.Encoding.{Encoding}
 use Rattle.text.specs.Text.{TextAt}
 use Rattle.table.specs.declared.Table.{Table}
-use Rattle.table.specs.Table.{slotCount}
 use Rattle.row.specs.Slot.{slotText}
 use Rattle.page.specs.Read.{onPage}
 use Rattle.intake.specs.Memory.{Memory}
 use Rattle.export.specs.declared.TextReply.{TextReply}
 use Rattle.export.specs.declared.TextReply.the-variants.{Found, Waiting, Refused}
-use Rattle.export.specs.Asked.{askedTable}
+use Rattle.export.specs.Asked.{askedTable, withSlot}
 use Rattle.export.specs.Walk.{pageSize, tableWalk}
-use Rattle.export.specs.Found as row
+use Rattle.chain.specs.Found as row
 use Rattle.export.specs.Row.{settleRow, rowPart}
 
 -- Rule 5.22: as `TextAt` (crate `text`), but its place counts from the start of the file
@@ -41,11 +38,9 @@ textOn size image table slot place = textFound (place / size) place (slotText ta
 abbrev pub textAt : (m : Memory) (table : Table) (slot place : ℕ) → Answer (row.Found TextPlace)
 textAt m table slot place = textOn (pageSize m) (m .image) table slot place
 
--- Rules 2.28, 5.25: 19 comes before the file
+-- Rules 2.28, 5.25: 19 comes before the walk
 abbrev pub textIn : (len : ℕ) (m : Memory) (k slot : ℕ) (table : Table) → Answer (row.Found TextPlace)
-textIn len m k slot table =
-    refuseIf (not (ltb slot (slotCount table))) (fault 19 0)
-    (settleRow (textAt m table slot) k (tableWalk len m table))
+textIn len m k slot table = withSlot slot table (settleRow (textAt m table slot) k (tableWalk len m table))
 
 unfoldable pub askText : (len : ℕ) (m : Memory) (number k slot : ℕ) → Answer (row.Found TextPlace)
 askText len m number k slot = andThen (askedTable len m number) (textIn len m k slot)

@@ -1,4 +1,5 @@
-// The three questions: all rows of a table, record k of a table, and a string of record k.
+// The three questions: all rows of a table, record k of a table, and a string of record k; and reading from the list of
+// places that the first of them wrote.
 ghost use mathlib.Core.Path.{_≡_};
 ghost use mathlib.Core.Option.{none};
 ghost use Prim.Native.Nat.{_/_};
@@ -9,19 +10,22 @@ ghost use Rattle.intake.specs.Private.{Sound};
 ghost use Rattle.directory.specs.Chain.{chainIn};
 ghost use Rattle.chain.specs.Tally.{tally, walkedOf};
 ghost use Rattle.chain.specs.Chain.{chainPlaces};
-ghost use Rattle.export.specs.Asked.{askedTable};
+ghost use Rattle.chain.specs.Found.{thenFound};
+ghost use Rattle.export.specs.Asked.{askedTable, askedSlot};
 ghost use Rattle.export.specs.Walk.{pageSize, tableWalk};
 ghost use Rattle.export.specs.Rows.{settleRows, askRows, rowsOf};
 ghost use Rattle.export.specs.Row.{settleRow, rowPart};
-ghost use Rattle.export.specs.Record.{recordIn, askRecord, recordReplyOf};
-ghost use Rattle.export.specs.Text.{textOn, textIn, askText, textReplyOf};
-ghost use Rattle.export.specs.Private.{walkDirectory, rowAt, atPlace, rowReplyOf};
+ghost use Rattle.export.specs.Record.{askRecord, recordReplyOf};
+ghost use Rattle.export.specs.Text.{textOn, askText, textReplyOf};
+ghost use Rattle.export.specs.FromList.{tableListed, askRecordIn, askTextIn};
+ghost use Rattle.export.specs.Private.{walkDirectory, rowAt, atPlace, rowReplyOf, recordOn};
 use chain::Place;
 use chain::Walked;
 use directory::Directory;
 use format::Block;
 use intake::Checked;
 use intake::Intake;
+use listed::Listed;
 use refusal::Refusal;
 use row::Record;
 use table::Table;
@@ -72,6 +76,22 @@ fn asked(intake: Intake, image: &[u8], map: &[u64], number: u32) -> TableReply
     match checked {
         Checked::Refused(refusal) => TableReply::Refused(refusal),
         Checked::Sound => Table::new(number),
+    }
+}
+
+// The table of a question for a string, past refusal 19 too.
+fn asked_slot(intake: Intake, image: &[u8], map: &[u64], number: u32, slot: usize) -> TableReply
+    ensures { λ r. ⌜ tableReplyOf r ≡ askedSlot (intake .len) (memory (now (image .entry)) (now (map .entry))) number slot ⌝ }
+{
+    let found = asked(intake, image, map, number);
+    match found {
+        TableReply::Refused(refusal) => TableReply::Refused(refusal),
+        TableReply::Known(table) => {
+            if table.slots() <= slot {
+                return TableReply::Refused(Refusal::NoSlot);
+            }
+            TableReply::Known(table)
+        }
     }
 }
 
@@ -212,11 +232,47 @@ fn find_row(len: u64, image: &[u8], map: &[u64], table: Table, k: usize) -> RowR
     }
 }
 
-fn record_of(len: u64, image: &[u8], map: &[u64], table: Table, k: usize) -> RecordReply
-    requires { ⌜ Sound len (memory (now image) (now map)) ⌝ }
-    ensures { λ r. ⌜ recordReplyOf r ≡ recordIn len (memory (now (image .entry)) (now (map .entry))) k table ⌝ }
+// The row that entry i of a list names. Of block 0 the header is read, and of the rest one page.
+fn find_listed(
+    len: u64,
+    image: &[u8],
+    map: &[u64],
+    table: Table,
+    list: &[u32],
+    i: usize,
+) -> RowReply
+    ensures { λ r. ⌜ rowReplyOf r ≡ thenFound
+        (tableListed len (memory (now (image .entry)) (now (map .entry))) (now (list .entry)) i table)
+        (rowAt (pageSize (memory (now (image .entry)) (now (map .entry))))) ⌝ }
 {
-    let found = find_row(len, image, map, table, k);
+    if !bitmap::has_bit(map, 0) {
+        return RowReply::Waiting {
+            page: 0,
+            rows: 0,
+            pages: 0,
+        };
+    }
+    let block = first_block(image);
+    if !directory::header_holds(block, len) {
+        return RowReply::Refused(Refusal::FileHeader);
+    }
+    let size = number::u32_at(block, 0x04);
+    let found = listed::find(size, len / (size as u64), table, image, map, list, i);
+    match found {
+        Listed::At(place) => RowReply::Found { place, size },
+        Listed::Waiting(page) => RowReply::Waiting {
+            page,
+            rows: 0,
+            pages: 0,
+        },
+        Listed::Refused(refusal) => RowReply::Refused(refusal),
+    }
+}
+
+// The record of a row that was looked for.
+fn record_from(table: Table, image: &[u8], found: RowReply) -> RecordReply
+    ensures { λ r. ⌜ recordReplyOf r ≡ thenFound (rowReplyOf found) (recordOn table (now (image .entry))) ⌝ }
+{
     match found {
         RowReply::Found { place, size } => {
             RecordReply::Found(row::read_record(table, row_part(size, image, place)))
@@ -234,7 +290,29 @@ pub fn record(intake: Intake, image: &[u8], map: &[u64], number: u32, k: usize) 
     match table {
         TableReply::Known(t) => {
             let len = intake.len;
-            record_of(len, image, map, t, k)
+            record_from(t, image, find_row(len, image, map, t, k))
+        }
+        TableReply::Refused(refusal) => RecordReply::Refused(refusal),
+    }
+}
+
+// The record of the row that entry i of a list names. Of the table one page is read.
+pub fn record_in(
+    intake: Intake,
+    image: &[u8],
+    map: &[u64],
+    number: u32,
+    list: &[u32],
+    i: usize,
+) -> RecordReply
+    ensures { λ r. ⌜ recordReplyOf r ≡
+        askRecordIn (intake .len) (memory (now (image .entry)) (now (map .entry))) number (now (list .entry)) i ⌝ }
+{
+    let table = asked(intake, image, map, number);
+    match table {
+        TableReply::Known(t) => {
+            let len = intake.len;
+            record_from(t, image, find_listed(len, image, map, t, list, i))
         }
         TableReply::Refused(refusal) => RecordReply::Refused(refusal),
     }
@@ -269,14 +347,11 @@ fn text_at(size: u32, image: &[u8], table: Table, slot: usize, place: u32) -> Te
     }
 }
 
-fn text_of(len: u64, image: &[u8], map: &[u64], table: Table, k: usize, slot: usize) -> TextReply
-    requires { ⌜ Sound len (memory (now image) (now map)) ⌝ }
-    ensures { λ r. ⌜ textReplyOf r ≡ textIn len (memory (now (image .entry)) (now (map .entry))) k slot table ⌝ }
+// The text of a slot of a row that was looked for.
+fn text_from(table: Table, image: &[u8], slot: usize, found: RowReply) -> TextReply
+    ensures { λ r. ⌜ textReplyOf r ≡
+        thenFound (rowReplyOf found) (λ at. textOn (at .size) (now (image .entry)) table slot (at .place)) ⌝ }
 {
-    if table.slots() <= slot {
-        return TextReply::Refused(Refusal::NoSlot);
-    }
-    let found = find_row(len, image, map, table, k);
     match found {
         RowReply::Found { place, size } => text_at(size, image, table, slot, place),
         RowReply::Waiting { page, rows, pages } => TextReply::Waiting { page, rows, pages },
@@ -295,11 +370,34 @@ pub fn text(
 ) -> TextReply
     ensures { λ r. ⌜ textReplyOf r ≡ askText (intake .len) (memory (now (image .entry)) (now (map .entry))) number k slot ⌝ }
 {
-    let table = asked(intake, image, map, number);
+    let table = asked_slot(intake, image, map, number, slot);
     match table {
         TableReply::Known(t) => {
             let len = intake.len;
-            text_of(len, image, map, t, k, slot)
+            text_from(t, image, slot, find_row(len, image, map, t, k))
+        }
+        TableReply::Refused(refusal) => TextReply::Refused(refusal),
+    }
+}
+
+// The text of a string slot of the row that entry i of a list names. Of the table one page is read.
+pub fn text_in(
+    intake: Intake,
+    image: &[u8],
+    map: &[u64],
+    number: u32,
+    list: &[u32],
+    i: usize,
+    slot: usize,
+) -> TextReply
+    ensures { λ r. ⌜ textReplyOf r ≡
+        askTextIn (intake .len) (memory (now (image .entry)) (now (map .entry))) number (now (list .entry)) i slot ⌝ }
+{
+    let table = asked_slot(intake, image, map, number, slot);
+    match table {
+        TableReply::Known(t) => {
+            let len = intake.len;
+            text_from(t, image, slot, find_listed(len, image, map, t, list, i))
         }
         TableReply::Refused(refusal) => TextReply::Refused(refusal),
     }

@@ -1,5 +1,6 @@
 -- What holds of each member of a list.
---     each-at, each-append, each-of     of one by its number; of two lists one behind the other; what follows from it
+--     each-at, each-every               of one by its number, and the other way round
+--     each-append, each-of              of two lists one behind the other; what follows from it
 --     each-member                       of a number that is a member
 use mathlib.Core.Path.{_≡_}
 use mathlib.Core.Bool.{true}
@@ -22,6 +23,10 @@ module _ {A : Type 0} where
   each-at P [] k d e h = absurd (omega arith)
   each-at P (x ∷ xs) zero d e h = e .0
   each-at P (x ∷ xs) (suc k) d e h = each-at P xs k d (e .1) (omega arith)
+
+  pub each-every : (P : A → Type 0) (xs : List A) (d : A) → ((k : ℕ) → k < length xs → P (getD xs k d)) → Each P xs
+  each-every P [] d f = tt
+  each-every P (x ∷ xs) d f = (f zero (omega arith), each-every P xs d (λ k h. f (suc k) (omega arith)))
 
   pub each-append : (P : A → Type 0) (xs ys : List A) → Each P xs → Each P ys → Each P (xs ++ ys)
   each-append P [] ys e f = f

@@ -1,6 +1,6 @@
 -- Laws of `nth`.
 --     nth-none, nth-first, nth-skip     of no element; element 0; past the first element
---     nth-map, past-map                 of a list whose elements are all changed alike
+--     map-at, nth-map, past-map         of a list whose elements are all changed alike
 --     nth-front, past-front             of two lists, one behind the other
 use mathlib.Core.Path.{_≡_, refl, ap, _∙_}
 use mathlib.Core.List.{List, [], _∷_, _++_, map}
@@ -25,7 +25,7 @@ nth-skip x xs k before =
     let z : before + suc (length xs) ≡ before + 1 + length xs = omega arith in
     rw (leb·suc-suc (suc k) (length xs), z)
 
-map-at : (f : ℕ → ℕ) (xs : List ℕ) (k : ℕ) → k < length xs → getD (map f xs) k 0 ≡ f (getD xs k 0)
+pub map-at : (f : ℕ → ℕ) (xs : List ℕ) (k : ℕ) → k < length xs → getD (map f xs) k 0 ≡ f (getD xs k 0)
 map-at f [] k h = absurd (omega arith)
 map-at f (x ∷ xs) zero h = refl
 map-at f (x ∷ xs) (suc k) h = map-at f xs k (le-of-suc-le-suc h)

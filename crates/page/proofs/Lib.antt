@@ -1,12 +1,14 @@
 -- `row_index` reads the header once for all that use the index (RowStarts), and EntriesInside takes the entries one at a time.
 -- `read` tests what the rungs of `readPage` test (ReadRungs), and its loop checks the rows (ReadLoop).
--- `fill` and `row` go through the same entries (FillLoop, RowLoop).
--- PageAnswer: what an answer says of the page. PageAgree: the answer depends on the relevant bytes alone.
+-- `fill` and `row` go through the same entries (FillLoop, RowLoop). `read_row` tests what the rungs of `readRow` test (OneRowRungs).
+-- PageAnswer, OneRowAnswer: what an answer says of the page, and of one row. PageAgree: the answer depends on the relevant bytes alone.
 pub mod EntriesInside
 pub mod RowStarts
 pub mod ReadRungs
 pub mod ReadLoop
 pub mod FillLoop
 pub mod RowLoop
+pub mod OneRowRungs
 pub mod PageAnswer
+pub mod OneRowAnswer
 pub mod PageAgree

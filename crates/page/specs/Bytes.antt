@@ -1,4 +1,4 @@
--- Rules 7.3 to 7.7: the relevant bytes of a page of this number that is read for this table.
+-- Rules 7.3 to 7.7, 7.14: the relevant bytes of a page of this number that is read for this table, whole or for one row.
 -- It rests on the relevant bytes of a row (row/Bytes).
 use mathlib.Core.Bool.{Bool, not, _&&_, _||_}
 use Prim.Native.Nat.{ℕ, _-_}
@@ -12,6 +12,7 @@ use Rattle.row.specs.Bytes.{rowByte}
 use Rattle.page.specs.Header.{headerAgrees, rowless, entries}
 use Rattle.page.specs.Index.{flagsAt, offsetAt, present, rowStart}
 use Rattle.page.specs.Read.{indexFits, beforeIndex}
+use Rattle.page.specs.OneRow.{isRow}
 
 -- Rule 7.3: page_index, type, next_page, num_rows_small, page_flags, num_rows_large
 unfoldable pub headerByte : ℕ → Bool
@@ -21,10 +22,13 @@ headerByte i = within 0x04 4 i || (within 0x08 4 i || (within 0x0c 4 i || (withi
 unfoldable pub rowByteAt : (table : Table) (rows : Bytes) (start i : ℕ) → Bool
 rowByteAt table rows start i = leb start i && (ltb i (length rows) && rowByte table (drop start rows) (i - start))
 
--- Rule 7.5: the flags of entry j's group; its offset and its row only where it is present.
+-- Rule 7.5: the flags of entry j's group; its offset only where it is present.
+unfoldable pub indexByte : (page : Bytes) (j i : ℕ) → Bool
+indexByte page j i = within (flagsAt page j) 2 i || (present page j && within (offsetAt page j) 2 i)
+
+-- Rules 7.5, 7.6: those, and the row of an entry that is present.
 unfoldable pub entryByte : (table : Table) (page : Bytes) (j i : ℕ) → Bool
-entryByte table page j i =
-    within (flagsAt page j) 2 i || (present page j && (within (offsetAt page j) 2 i || rowByteAt table (beforeIndex page) (rowStart page j) i))
+entryByte table page j i = indexByte page j i || (present page j && rowByteAt table (beforeIndex page) (rowStart page j) i)
 
 -- a byte of one of the entries
 unfoldable pub entriesByte : (table : Table) (page : Bytes) (i : ℕ) → Bool
@@ -34,3 +38,9 @@ entriesByte table page i = anyFrom (λ (j : ℕ). entryByte table page j i) (ent
 unfoldable pub pageByte : (number : ℕ) (table : Table) (page : Bytes) (i : ℕ) → Bool
 pageByte number table page i =
     headerByte i || (headerAgrees number table page && (not (rowless page) && (indexFits page && entriesByte table page i)))
+
+-- Rule 7.14: the same where one row is read, named by its start and its rank: the whole row index, and of the rows this one alone.
+unfoldable pub oneRowByte : (number : ℕ) (table : Table) (page : Bytes) (start rank i : ℕ) → Bool
+oneRowByte number table page start rank i =
+    headerByte i || (headerAgrees number table page && (not (rowless page) && (indexFits page
+    && (anyFrom (λ (j : ℕ). indexByte page j i) (entries page) 0 || (isRow page start rank && rowByteAt table (beforeIndex page) start i)))))

@@ -4,12 +4,13 @@ ghost use Prim.Native.Nat.{_+_, _-_, _*_, _/_, _%_, _<_, _≤_};
 ghost use lib.ListN.{length, set, take, drop};
 ghost use Rattle.format.specs.Size.{heapStart, groupSize};
 ghost use Rattle.lists.specs.Write.{written};
-ghost use Rattle.lists.specs.Nth.{nth};
+ghost use Rattle.lists.specs.Nth.{nth, isElement};
 ghost use Rattle.row.specs.Check.{checkRow, checkOf};
 ghost use Rattle.page.specs.Header.{next-page, headerAgrees, rowless, entries};
 ghost use Rattle.page.specs.Index.{indexSize, present, rowStart, presentFrom};
-ghost use Rattle.page.specs.Read.{beforeIndex, places, rowPlaces, readPage, rowCount, pageReadOf};
+ghost use Rattle.page.specs.Read.{beforeIndex, onPage, places, rowPlaces, readPage, rowCount, pageReadOf};
 ghost use Rattle.page.specs.Row.{pageRow, rowAtOf, Near};
+ghost use Rattle.page.specs.OneRow.{readRow, rowReadOf};
 ghost use Rattle.page.specs.Private.{rowIndex, entriesRead, checkedCount};
 use format::Page;
 use format::RowGroup;
@@ -20,6 +21,12 @@ use table::Table;
 // What reading a page finds: the number of its rows, or the refusal.
 pub enum PageRead {
     Rows(usize),
+    Refused(Refusal),
+}
+
+// What reading one row finds: that it is a good row, or the refusal.
+pub enum RowRead {
+    Good,
     Refused(Refusal),
 }
 
@@ -146,6 +153,18 @@ fn check_at(rows: &[u8], start: usize, table: Table) -> Check
     row::check_row(table, &rows[start..])
 }
 
+// The check of the row at a start on a page of this number, which 14 and 15 carry.
+fn judge_row(rows: &[u8], number: u32, table: Table, start: usize) -> RowRead
+    ensures { λ r. ⌜ rowReadOf r ≡ onPage number (checkRow table (drop start (now (rows .entry)))) ⌝ }
+{
+    let check = check_at(rows, start, table);
+    match check {
+        Check::Good => RowRead::Good,
+        Check::RowFault => RowRead::Refused(Refusal::RowShort(number)),
+        Check::TextFault => RowRead::Refused(Refusal::TextFault(number)),
+    }
+}
+
 // Checks the present rows among n entries and counts them.
 fn read_rows(page: &[u8], rows: &[u8], number: u32, table: Table, n: u16) -> PageRead
     requires { ⌜ indexSize n ≤ length (now page) ⌝ }
@@ -155,16 +174,13 @@ fn read_rows(page: &[u8], rows: &[u8], number: u32, table: Table, n: u16) -> Pag
     let mut found: usize = 0;
     while i < n {
         if is_present(page, i) {
-            let check = check_at(rows, row_start(page, i), table);
-            match check {
-                Check::Good => {
+            let judged = judge_row(rows, number, table, row_start(page, i));
+            match judged {
+                RowRead::Good => {
                     found += 1;
                 }
-                Check::RowFault => {
-                    return PageRead::Refused(Refusal::RowShort(number));
-                }
-                Check::TextFault => {
-                    return PageRead::Refused(Refusal::TextFault(number));
+                RowRead::Refused(refusal) => {
+                    return PageRead::Refused(refusal);
                 }
             }
         }
@@ -254,6 +270,39 @@ pub fn row(page: &[u8], k: usize) -> RowAt
     ensures { λ r. ⌜ (rowAtOf r ≡ pageRow (now (page .entry)) k) × Near r ⌝ }
 {
     find_row(page, entries_read(row_index(page)), k)
+}
+
+// Whether the present row of a rank among n entries starts at a place of the page.
+fn is_row(page: &[u8], n: u16, start: usize, rank: usize) -> bool
+    requires { ⌜ indexSize n ≤ length (now page) ⌝ }
+    ensures { λ r. ⌜ r ≡ isElement start (nth (presentFrom (now (page .entry)) n 0) rank 0) ⌝ }
+{
+    let found = find_row(page, n, rank);
+    match found {
+        RowAt::Start(at) => at == start,
+        RowAt::Past(_) => false,
+    }
+}
+
+// Reads one row of a page, which is to start at a place of the page and to have a rank among its present rows. No other
+// row is looked at.
+pub fn read_row(page: &[u8], number: u32, table: Table, start: usize, rank: usize) -> RowRead
+    ensures { λ r. ⌜ rowReadOf r ≡ readRow number table (now (page .entry)) start rank ⌝ }
+{
+    if !header_agrees(page, number, table) {
+        return RowRead::Refused(Refusal::PageHeader(number));
+    }
+    let index = row_index(page);
+    if index.rowless {
+        return RowRead::Refused(Refusal::NoRow);
+    }
+    if !index.fits {
+        return RowRead::Refused(Refusal::RowIndex(number));
+    }
+    if !is_row(page, index.entries, start, rank) {
+        return RowRead::Refused(Refusal::NoRow);
+    }
+    judge_row(&page[..index.start], number, table, start)
 }
 
 // The part of a page before its row index, in which its rows lie.

@@ -30,8 +30,8 @@ use Rattle.chain.proofs.WalkGrows.{BeginsWith, Grows}
 use Rattle.export.specs.OwnFault.{OwnFault}
 use Rattle.export.specs.Walk.{tableWalk}
 use Rattle.export.specs.Rows.{RowsOutcome, settleRows, askRows}
-use Rattle.export.specs.Found as row
-use Rattle.export.specs.Found.{Found, found}
+use Rattle.chain.specs.Found as row
+use Rattle.chain.specs.Found.{Found, found}
 use Rattle.export.specs.Row.{settleRow}
 use Rattle.export.specs.Record.{recordAt, recordIn, askRecord}
 use Rattle.export.specs.Text.{TextPlace, textAt, textIn, askText}

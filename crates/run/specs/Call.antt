@@ -7,7 +7,7 @@ use Rattle.row.specs.Record.{RowRecord}
 use Rattle.intake.specs.Memory.{Memory}
 use Rattle.intake.specs.Deliver.{Taken, delivery}
 use Rattle.export.specs.Rows.{RowsOutcome, askRows}
-use Rattle.export.specs.Found.{Found}
+use Rattle.chain.specs.Found.{Found}
 use Rattle.export.specs.Record.{askRecord}
 use Rattle.export.specs.Text.{TextPlace, askText}
 use Rattle.run.specs.Received.{Delivery}

@@ -12,7 +12,7 @@ use Rattle.intake.specs.Memory.{Memory}
 use Rattle.chain.specs.Begins.{Begins}
 use Rattle.export.specs.OwnFault.{OwnFault}
 use Rattle.export.specs.Rows.{askRows}
-use Rattle.export.specs.Found.{Found, found}
+use Rattle.chain.specs.Found.{Found, found}
 use Rattle.export.specs.Record.{askRecord}
 use Rattle.export.specs.Text.{TextPlace, askText}
 use Rattle.run.specs.Call.{Question, answer}

@@ -5,7 +5,7 @@ use Prim.Native.Nat.{_-_}
 use native.Mathlib.Omega.{arith}
 use borrow.Author.Needs.{needs}
 use Rattle.page.proofs.EntriesInside.{entry-room}
-use Rattle.page.proofs.ReadLoop.{Reading, begin, end, absent, good, row-fault, text-fault}
+use Rattle.page.proofs.ReadLoop.{Reading, begin, end, absent, good, fault}
 use Rattle.page.proofs.read_rows.Statement.{statement}
 use Rattle.page.proofs.read_rows.Tie as tie
 
@@ -26,8 +26,8 @@ row-start-requires c κs =
     let at = c .before .before in
     omega (arith, entry-room _ _ (at .loop-test .taken))
 
-check-at-requires : tie.Need-check-at-requires Inv-loop μ-loop
-check-at-requires c κs = search needs
+judge-row-requires : tie.Need-judge-row-requires Inv-loop μ-loop
+judge-row-requires c κs = search needs
 
 enum-told : tie.Need-enum-told Inv-loop μ-loop
 enum-told c = search needs
@@ -35,27 +35,16 @@ enum-told c = search needs
 add-found : tie.Need-add-found Inv-loop μ-loop
 add-found c = search needs
 
-enum-told-2 : tie.Need-enum-told-2 Inv-loop μ-loop
-enum-told-2 c = search needs
+enum-known-judged : tie.Need-enum-known-judged Inv-loop μ-loop
+enum-known-judged c = search needs
 
 returns : tie.Need-returns Inv-loop μ-loop
 returns c =
-    let check = c .before .before in
-    let test = check .before .before in
+    let judge = c .before .before .before in
+    let test = judge .before .before in
     let turn = test .before .before in
-    row-fault (turn .before .loop .inv) (turn .loop-test .taken) (sym (test .before .is-present .ensures) ∙ test .if1 .taken)
-    (check .before .row-start .ensures .0) (c .enum-told2 .given .1) (check .check-at .ensures)
-
-enum-told-3 : tie.Need-enum-told-3 Inv-loop μ-loop
-enum-told-3 c = search needs
-
-returns-2 : tie.Need-returns-2 Inv-loop μ-loop
-returns-2 c =
-    let check = c .before .before in
-    let test = check .before .before in
-    let turn = test .before .before in
-    text-fault (turn .before .loop .inv) (turn .loop-test .taken) (sym (test .before .is-present .ensures) ∙ test .if1 .taken)
-    (check .before .row-start .ensures .0) (c .enum-told3 .given .1) (check .check-at .ensures)
+    fault (turn .before .loop .inv) (turn .loop-test .taken) (sym (test .before .is-present .ensures) ∙ test .if1 .taken)
+    (judge .before .row-start .ensures .0) (c .before .judged .given .1) (judge .judge-row .ensures)
 
 add-i : tie.Need-add-i Inv-loop μ-loop
 add-i c = search needs
@@ -72,8 +61,8 @@ loop-again c =
     (λ w. rw (w .1) (absent inv (turn .loop-test .taken) (sym told ∙ w .0 .left)))
     (c .if1 .came)
 
-returns-3 : tie.Need-returns-3 Inv-loop μ-loop
-returns-3 c = end (c .before .loop .inv) (c .loop-test .left)
+returns-2 : tie.Need-returns-2 Inv-loop μ-loop
+returns-2 c = end (c .before .loop .inv) (c .loop-test .left)
 
 pub read-rows-spec : {M : Type 1} → statement M
 read-rows-spec =
@@ -84,14 +73,12 @@ read-rows-spec =
     loop-holds
     is-present-requires
     row-start-requires
-    check-at-requires
+    judge-row-requires
     enum-told
     add-found
-    enum-told-2
+    enum-known-judged
     returns
-    enum-told-3
-    returns-2
     add-i
     loop-less
     loop-again
-    returns-3)
+    returns-2)

@@ -1,0 +1,62 @@
+-- Rule 5.31: what it means that one row of a page is read without a fault.
+--     row-read         the header agrees, the index fits, the row is where it is said to be and is good
+--     read-row-good    the other way round
+--     start-fits       a page with a row of some rank has rows, and its index fits
+use mathlib.Core.Path.{_≡_, refl}
+use mathlib.Core.Bool.{true, false, false≢true, not}
+use mathlib.Core.List.{[]}
+use Prim.Native.Nat.{ℕ}
+use native.Mathlib.Omega.{arith}
+use lib.ListN.{drop}
+use borrow.Author.Tests.{not-false}
+use Rattle.lists.specs.Alias.{Bytes, Places}
+use Rattle.lists.specs.Nth.{nth, isElement}
+use Rattle.lists.proofs.Choice.{on, never}
+use Rattle.lists.proofs.Nth.{nth-none}
+use Rattle.refusal.specs.Answer.{Answer, given, refused}
+use Rattle.table.specs.declared.Table.{Table}
+use Rattle.row.specs.Check.{checkRow}
+use Rattle.page.specs.Header.{headerAgrees, rowless}
+use Rattle.page.specs.Read.{indexFits, beforeIndex, rowStarts, onPage}
+use Rattle.page.specs.Row.{pageRow}
+use Rattle.page.specs.OneRow.{isRow, readRow}
+
+pub record ReadRow (number : ℕ) (table : Table) (page : Bytes) (start rank : ℕ) : Type 0 where
+  pub header : headerAgrees number table page ≡ true
+  pub rows : rowless page ≡ false
+  pub fits : indexFits page ≡ true
+  pub here : isRow page start rank ≡ true
+  pub good : checkRow table (drop start (beforeIndex page)) ≡ given tt
+
+page-given : (number : ℕ) (answer : Answer (Unit {0})) → onPage number answer ≡ given tt → answer ≡ given tt
+page-given number (given tt) e = refl
+page-given number (refused f) e = never (cc)
+
+module _ (number : ℕ) (table : Table) (page : Bytes) (start rank : ℕ) where
+  pub row-read : readRow number table page start rank ≡ given tt → ReadRow number table page start rank
+  unfolding readRow
+  row-read e =
+      on (headerAgrees number table page)
+      (λ h. on (rowless page) (λ r. never (cc (rw (h, r) at e)))
+      (λ r. on (indexFits page)
+      (λ f. on (isRow page start rank)
+      (λ w. record {
+        header = h;
+        rows = r;
+        fits = f;
+        here = w;
+        good = page-given number (checkRow table (drop start (beforeIndex page))) (rw (h, r, f, w) at e);
+      })
+      (λ w. never (cc (rw (h, r, f, w) at e))))
+      (λ f. never (cc (rw (h, r, f) at e)))))
+      (λ h. never (cc (rw h at e)))
+
+  pub read-row-good : ReadRow number table page start rank → readRow number table page start rank ≡ given tt
+  unfolding readRow
+  read-row-good g = rw (g .header, g .rows, g .fits, g .here, g .good)
+
+  pub start-fits : isRow page start rank ≡ true → (rowless page ≡ false) × (indexFits page ≡ true)
+  unfolding isRow pageRow rowStarts
+  start-fits e =
+      on (rowless page) (λ r. absurd (false≢true (rw (r, nth-none rank 0) at e)))
+      (λ r. on (indexFits page) (λ f. (r, f)) (λ f. absurd (false≢true (rw (r, f, nth-none rank 0) at e))))

@@ -1,0 +1,53 @@
+-- Rule 5.31: which rung of `readRow` answers, by the tests of the code.
+use mathlib.Core.Path.{_≡_}
+use mathlib.Core.Bool.{Bool, true, false}
+use Prim.Native.Nat.{ℕ}
+use lib.ListN.{take, drop}
+use Rattle.lists.specs.Alias.{Bytes}
+use Rattle.lists.specs.Nth.{nth, isElement}
+use Rattle.refusal.specs.Fault.{fault}
+use Rattle.refusal.specs.Answer.{Answer, refused}
+use Rattle.table.specs.declared.Table.{Table}
+use Rattle.row.specs.Check.{checkRow}
+use Rattle.page.specs.declared.RowIndex.{RowIndex}
+use Rattle.page.specs.Header.{headerAgrees, rowless, entries}
+use Rattle.page.specs.Index.{presentFrom}
+use Rattle.page.specs.Read.{indexFits, beforeIndex, rowStarts, onPage}
+use Rattle.page.specs.Row.{pageRow}
+use Rattle.page.specs.OneRow.{isRow, readRow}
+use Rattle.page.specs.Private.{rowIndex}
+
+module _ (number : ℕ) (table : Table) (page : Bytes) (start rank : ℕ) where
+  pub header-rung : headerAgrees number table page ≡ false → refused (fault 12 number) ≡ readRow number table page start rank
+  unfolding readRow
+  header-rung h = rw h
+
+  module _ {index : RowIndex} (e : index ≡ rowIndex page) (h : headerAgrees number table page ≡ true) where
+    pub rowless-rung : index .rowless ≡ true → refused (fault 18 0) ≡ readRow number table page start rank
+    unfolding readRow
+    rowless-rung r = let flag : rowless page ≡ true = rw e at r in rw (h, flag)
+
+    module _ (r : index .rowless ≡ false) where
+      flag : rowless page ≡ false
+      flag = rw e at r
+
+      pub index-rung : index .fits ≡ false → refused (fault 13 number) ≡ readRow number table page start rank
+      unfolding readRow
+      index-rung f = let unfit : indexFits page ≡ false = rw e at f in rw (h, flag, unfit)
+
+      module _ (f : index .fits ≡ true) {here : Bool} (s : here ≡ isElement start (nth (presentFrom page (index .entries) 0) rank 0)) where
+        fit : indexFits page ≡ true
+        fit = rw e at f
+
+        is-row : here ≡ isRow page start rank
+        unfolding isRow pageRow rowStarts
+        is-row = rw (flag, fit) (rw e at s)
+
+        pub start-rung : here ≡ false → refused (fault 18 0) ≡ readRow number table page start rank
+        unfolding readRow
+        start-rung w = rw (h, flag, fit, ← is-row, w)
+
+        pub row-rung : here ≡ true → {answer : Answer (Unit {0})} → answer ≡ onPage number (checkRow table (drop start (take (index .start) page)))
+            → answer ≡ readRow number table page start rank
+        unfolding readRow beforeIndex
+        row-rung w a = rw (h, flag, fit, ← is-row, w) (rw e at a)
