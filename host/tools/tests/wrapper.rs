@@ -93,7 +93,7 @@ fn check_table(intake: &Intake, expected: &ExpectedTable) {
     };
     assert_eq!(rows.walk(), full);
     assert_eq!(rows.len(), expected.rows.len());
-    for (row, expected) in rows.zip(&expected.rows) {
+    for (row, expected) in rows.iter().zip(&expected.rows) {
         assert_eq!(row.place(), expected.place);
         assert_eq!(numbers(row.record().expect("found")), expected.numbers);
         for (slot, text) in (0..).zip(&expected.texts) {
@@ -128,7 +128,7 @@ fn answers(file: &[u8]) -> String {
         for table in Table::ALL {
             let rows = intake.rows(table);
             answers += &format!("{:?}\n", rows.as_ref().map(|rows| rows.walk()));
-            for row in rows.into_iter().flatten() {
+            for row in rows.iter().flatten() {
                 let texts: Vec<_> = (0..21).map(|slot| row.text(slot)).collect();
                 answers += &format!("{} {:?} {texts:?}\n", row.place(), row.record());
             }

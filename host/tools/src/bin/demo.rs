@@ -161,7 +161,7 @@ fn table_line(intake: &Intake, table: Table, progress: &mut Progress) -> String 
     match intake.rows(table) {
         Ok(rows) => {
             let walk = rows.walk();
-            let places: Vec<u32> = rows.map(|row| row.place()).collect();
+            let places = rows.into_places();
             let before = progress
                 .places
                 .insert(table, places.clone())
@@ -252,7 +252,7 @@ struct Node {
 
 fn nodes(intake: &Intake) -> Result<Vec<Node>, Refusal> {
     let mut nodes = Vec::new();
-    for row in intake.rows(Table::PlaylistTree)? {
+    for row in &intake.rows(Table::PlaylistTree)? {
         if let Record::PlaylistNode {
             parent_id,
             sort_order,
@@ -284,7 +284,7 @@ fn number(intake: &Intake, row: &Row, offset: usize) -> u32 {
 /// The tracks of each playlist in their order, by id.
 fn entries(intake: &Intake) -> Result<HashMap<u32, Vec<(u32, u32)>>, Refusal> {
     let mut lists: HashMap<u32, Vec<(u32, u32)>> = HashMap::new();
-    for row in intake.rows(Table::PlaylistEntries)? {
+    for row in &intake.rows(Table::PlaylistEntries)? {
         let [index, track, playlist] =
             [0x00, 0x04, 0x08].map(|offset| number(intake, &row, offset));
         lists.entry(playlist).or_default().push((index, track));
@@ -296,7 +296,7 @@ fn entries(intake: &Intake) -> Result<HashMap<u32, Vec<(u32, u32)>>, Refusal> {
 /// The number of each track's row, by its id.
 fn track_rows(intake: &Intake) -> Result<HashMap<u32, u64>, Refusal> {
     let mut numbers = HashMap::new();
-    for row in intake.rows(Table::Tracks)? {
+    for row in &intake.rows(Table::Tracks)? {
         numbers
             .entry(number(intake, &row, 0x48))
             .or_insert(row.number());
