@@ -213,19 +213,24 @@ static void run_list_results(void)
     expect(list[0] == 1080 && list[1] == 0xa5a5a5a5u, "reading from a list leaves the list");
 }
 
-/* Element 1 of the list is no row's place: the row a second time, on page 0, in a page without rows, and so on. */
-static void run_wrong_places(void)
+/* Lists that no question wrote. */
+static void run_wrong_lists(void)
 {
-    static const uint32_t wrong[] = {1080, 1064, 1079, 1081, 0, 511, 552, 1535, 1536, UINT32_MAX};
+    static const uint32_t wrong[] = {1064, 1079, 1081, 0, 511, 552, 1535, 1536, UINT32_MAX};
     size_t i;
 
     for (i = 0; i < sizeof wrong / sizeof wrong[0]; i++) {
-        list[1] = wrong[i];
-        answers("record at a wrong place", record_in(SARVOLTIG_GENRES, ROWS, 1), SARVOLTIG_NO_ROW, 1, 0, 0, 0);
-        answers("text at a wrong place", text_in(SARVOLTIG_GENRES, ROWS, 1, 0), SARVOLTIG_NO_ROW, 1, 0, 0, 0);
-        expect(list[0] == 1080 && list[1] == wrong[i], "a refusal leaves the list that it reads");
+        list[0] = wrong[i];
+        answers("record at a wrong place", record_in(SARVOLTIG_GENRES, ROWS, 0), SARVOLTIG_NO_ROW, 1, 0, 0, 0);
+        answers("text at a wrong place", text_in(SARVOLTIG_GENRES, ROWS, 0, 0), SARVOLTIG_NO_ROW, 1, 0, 0, 0);
+        expect(list[0] == wrong[i], "a refusal leaves the list that it reads");
     }
-    list[1] = 0xa5a5a5a5u;
+    list[1] = 1080;
+    answers("record behind a place on another page", record_in(SARVOLTIG_GENRES, ROWS, 1), SARVOLTIG_DONE, 1, 7, 0, 0);
+    list[0] = 1080;
+    answers("record at a repeated place", record_in(SARVOLTIG_GENRES, ROWS, 1), SARVOLTIG_NO_ROW, 1, 0, 0, 0);
+    answers("text at a repeated place", text_in(SARVOLTIG_GENRES, ROWS, 1, 0), SARVOLTIG_NO_ROW, 1, 0, 0, 0);
+    expect(list[0] == 1080 && list[1] == 1080 && list[2] == 0xa5a5a5a5u, "reading from a list leaves the list");
 }
 
 /* A new intake over the same buffers: the image has the file, but its blocks are not held. */
@@ -255,7 +260,7 @@ int main(void)
     run_questions();
     run_lists();
     run_list_results();
-    run_wrong_places();
+    run_wrong_lists();
     run_list_waits();
     for (i = 0; i < GUARD; i++) {
         expect(image[LEN + i] == 0xa5 && map[1 + i] == 0xa5a5a5a5a5a5a5a5u && list[ROWS + i] == 0xa5a5a5a5u,
