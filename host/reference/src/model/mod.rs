@@ -3,6 +3,7 @@
 pub(crate) mod bytes;
 mod chain;
 mod directory;
+mod listed;
 mod page;
 mod question;
 mod received;

@@ -2,6 +2,7 @@
 
 use std::borrow::Cow;
 
+use super::listed;
 use super::question::{self, RecordReply, Rows, TextReply};
 use super::source::Source;
 use super::Refusal;
@@ -226,6 +227,68 @@ impl Session {
     pub fn text(&self, table: impl Into<u32>, k: u64, slot: u64) -> Result<TextReply, Refusal> {
         self.check_intake()?;
         question::text(self, table.into(), k, slot)
+    }
+
+    /// The record of the row that element `i` of `list` names, where a question
+    /// for all rows of the table wrote the list. One page is read.
+    ///
+    /// # Errors
+    ///
+    /// Refusals 1 to 4, 8, 9, 12 to 15 and 18.
+    ///
+    /// ```
+    /// # use sarvoltig_reference::{generate, model::{RecordReply, Session}};
+    /// # let file = generate::demo();
+    /// # let mut session = Session::new(file.clone(), vec![0; 8]);
+    /// # session.open(file.len() as u64)?;
+    /// # for (block, piece) in (0..).zip(file.chunks(512)) {
+    /// #     session.deliver(block, piece)?;
+    /// # }
+    /// let mut list = [0; 5];
+    /// session.rows(1u8, &mut list)?;
+    /// assert_eq!(session.record_in(1u8, &list, 4)?, RecordReply::Found(vec![5]));
+    /// assert!(session.record_in(1u8, &list, 5).is_err());
+    /// # Ok::<(), sarvoltig_reference::model::Refusal>(())
+    /// ```
+    pub fn record_in(
+        &self,
+        table: impl Into<u32>,
+        list: &[u32],
+        i: u64,
+    ) -> Result<RecordReply, Refusal> {
+        self.check_intake()?;
+        listed::record_in(self, table.into(), list, i)
+    }
+
+    /// String slot `slot` of the row that element `i` of `list` names, as
+    /// [`Session::record_in`].
+    ///
+    /// # Errors
+    ///
+    /// Refusals 1 to 4, 8, 9, 12 to 15, 18 and 19.
+    ///
+    /// ```
+    /// # use sarvoltig_reference::{generate, model::Session};
+    /// # let file = generate::demo();
+    /// # let mut session = Session::new(file.clone(), vec![0; 8]);
+    /// # session.open(file.len() as u64)?;
+    /// # for (block, piece) in (0..).zip(file.chunks(512)) {
+    /// #     session.deliver(block, piece)?;
+    /// # }
+    /// let mut list = [0; 5];
+    /// session.rows(1u8, &mut list)?;
+    /// assert_eq!(session.text_in(1u8, &list, 4, 0)?, session.text(1u8, 4, 0)?);
+    /// # Ok::<(), sarvoltig_reference::model::Refusal>(())
+    /// ```
+    pub fn text_in(
+        &self,
+        table: impl Into<u32>,
+        list: &[u32],
+        i: u64,
+        slot: u64,
+    ) -> Result<TextReply, Refusal> {
+        self.check_intake()?;
+        listed::text_in(self, table.into(), list, i, slot)
     }
 
     /// Rules 2.1 to 2.3; gives B.
