@@ -79,21 +79,28 @@ pub enum TextReply {
 pub(super) fn rows(source: &impl Source, table: u32, list: &mut [u32]) -> Result<Rows, Refusal> {
     let table = asked_table(table)?;
     let mut places = Vec::new();
-    let Walked {
-        rows,
-        pages,
-        waiting,
-    } = walk(source, table, |_, row| places.push(row.place))?;
+    let walked = walk(source, table, |_, row| places.push(row.place))?;
     list.get_mut(..places.len())
         .ok_or(Refusal {
             number: 17,
-            carries: rows,
+            carries: walked.rows,
         })?
         .copy_from_slice(&places);
-    Ok(match waiting {
-        None => Rows::Full { rows, pages },
-        Some(page) => Rows::Waiting { page, rows, pages },
-    })
+    Ok(walked.into())
+}
+
+impl From<Walked> for Rows {
+    fn from(walked: Walked) -> Self {
+        let Walked {
+            rows,
+            pages,
+            waiting,
+        } = walked;
+        match waiting {
+            None => Rows::Full { rows, pages },
+            Some(page) => Rows::Waiting { page, rows, pages },
+        }
+    }
 }
 
 pub(super) fn record(source: &impl Source, table: u32, k: u64) -> Result<RecordReply, Refusal> {

@@ -2,6 +2,7 @@
 
 use std::borrow::Cow;
 
+use super::contents::{self, RowContents};
 use super::listed;
 use super::question::{self, RecordReply, Rows, TextReply};
 use super::source::Source;
@@ -289,6 +290,37 @@ impl Session {
     ) -> Result<TextReply, Refusal> {
         self.check_intake()?;
         listed::text_in(self, table.into(), list, i, slot)
+    }
+
+    /// Calls `visit` for each row of a table in order, with its record and its
+    /// strings, and answers as [`Session::rows`] with room for all. After a
+    /// refusal the rows visited before the fault are not to be used.
+    ///
+    /// # Errors
+    ///
+    /// Refusals 1 to 4, 8 to 16.
+    ///
+    /// ```
+    /// # use sarvoltig_reference::{generate, model::{Rows, Session}};
+    /// # let file = generate::demo();
+    /// # let mut session = Session::new(file.clone(), vec![0; 8]);
+    /// # session.open(file.len() as u64)?;
+    /// # for (block, piece) in (0..).zip(file.chunks(512)) {
+    /// #     session.deliver(block, piece)?;
+    /// # }
+    /// let mut ids = Vec::new();
+    /// let rows = session.for_each_row(1u8, |row| ids.push(row.numbers[0]))?;
+    /// assert_eq!(rows, Rows::Full { rows: 5, pages: 1 });
+    /// assert_eq!(ids, [1, 2, 3, 4, 5]);
+    /// # Ok::<(), sarvoltig_reference::model::Refusal>(())
+    /// ```
+    pub fn for_each_row(
+        &self,
+        table: impl Into<u32>,
+        visit: impl FnMut(RowContents),
+    ) -> Result<Rows, Refusal> {
+        self.check_intake()?;
+        contents::for_each_row(self, table.into(), visit)
     }
 
     /// Rules 2.1 to 2.3; gives B.

@@ -262,8 +262,9 @@ fn lists_lead_to_the_rows_that_were_written() {
 fn check_list(session: &Session, table: Table, rng: &mut Rng) -> u64 {
     let number = table.number();
     let mut list = vec![0xeeee_eeee; 6000];
-    let Ok(Rows::Full { rows, .. } | Rows::Waiting { rows, .. }) = session.rows(number, &mut list)
-    else {
+    let answer = session.rows(number, &mut list);
+    assert_eq!(session.for_each_row(number, |_| {}), answer);
+    let Ok(Rows::Full { rows, .. } | Rows::Waiting { rows, .. }) = answer else {
         return 0;
     };
     let mut compared = 0;
