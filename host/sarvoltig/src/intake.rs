@@ -260,9 +260,9 @@ impl<'a> Intake<'a> {
 
     /// Reads the record of element `i` of a list that [`rows_into`](Self::rows_into) wrote, from 0. It looks at one page.
     ///
-    /// For `i` below the rows found, it answers what [`record`](Self::record) answers for `i`, also later, when more
-    /// blocks are in. Any list is answered; the elements before `i` tell which of the page's rows is meant, so it is
-    /// given from its first element on.
+    /// For `i` below the rows found, the answer is that of [`record`](Self::record) for `i`, and it stays as more blocks
+    /// arrive. Any list is answered. The elements before `i` tell which of the page's rows is meant, as two may start at
+    /// one place: pass the list from its first element on.
     ///
     /// ```
     /// # use sarvoltig::*;
