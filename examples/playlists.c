@@ -3,8 +3,9 @@
  *
  *     playlists EXPORT
  *
- * The file is taken in block by block, in a shuffled order, as it may come over a network. What the library refuses ends
- * the program with a message and status 1.
+ * The file is taken in block by block, in a shuffled order, as it may come over a network. Each table is walked for the
+ * list of its rows, and then every row is read from that list. What the library refuses ends the program with a message and
+ * status 1.
  */
 #include <errno.h>
 #include <inttypes.h>
@@ -26,9 +27,17 @@ typedef struct {
     size_t map_len;
 } Intake;
 
-/* A row of the playlist tree: record k of its table. */
+/* The rows of a table: the list of their places. */
 typedef struct {
-    uint64_t k;
+    uint32_t table;
+    const char *name;
+    uint32_t *list;
+    size_t count;
+} Rows;
+
+/* A row of the playlist tree, with its index in the list. */
+typedef struct {
+    size_t i;
     uint64_t parent;
     uint64_t order;
     uint64_t id;
@@ -42,19 +51,20 @@ typedef struct {
     uint64_t track;
 } Entry;
 
-/* A track: record k of its table. */
+/* A track, with its index in the list. */
 typedef struct {
-    uint64_t k;
+    size_t i;
     uint64_t id;
 } Track;
 
+/* Three tables, and what is kept of each of their rows. */
 typedef struct {
+    Rows node_rows;
     Node *nodes;
-    size_t node_count;
+    Rows entry_rows;
     Entry *entries;
-    size_t entry_count;
+    Rows track_rows;
     Track *tracks;
-    size_t track_count;
 } Library;
 
 static const char *const reasons[] = {
@@ -195,28 +205,45 @@ static Intake take_in(FILE *file, const char *path)
     return intake;
 }
 
-/* How many rows a table has. A list of no length is refused with the rows found, unless there are none. */
-static size_t count_rows(const Intake *intake, uint32_t table, const char *name)
+/* Asks for all rows of a table, into its list of so many elements. */
+static uint32_t ask_rows(const Intake *intake, const Rows *rows, size_t list_len, uint64_t *result)
+{
+    return sarvoltig_rows(intake->len, intake->image, (size_t)intake->len, intake->map, intake->map_len, rows->table,
+                          rows->list, list_len, result, SARVOLTIG_RESULT);
+}
+
+/* The rows of a table. A list of no length is refused with the length that it needs, unless there are no rows. */
+static Rows read_rows(const Intake *intake, uint32_t table, const char *name)
 {
     uint64_t result[SARVOLTIG_RESULT];
-    uint32_t list[1];
-    uint32_t code = sarvoltig_rows(intake->len, intake->image, (size_t)intake->len, intake->map, intake->map_len, table, list, 0,
-                                   result, SARVOLTIG_RESULT);
+    uint32_t none[1];
+    Rows rows;
+    uint32_t code;
 
+    rows.table = table;
+    rows.name = name;
+    rows.list = none;
+    code = ask_rows(intake, &rows, 0, result);
     if (code != SARVOLTIG_DONE && code != SARVOLTIG_LIST_SHORT) {
         refuse(name, code, result);
     }
-    return (size_t)result[0];
-}
-
-/* The numbers of record k of a table. */
-static void read_record(const Intake *intake, uint32_t table, const char *name, uint64_t k, uint64_t *result)
-{
-    uint32_t code = sarvoltig_record(intake->len, intake->image, (size_t)intake->len, intake->map, intake->map_len, table, k,
-                                     result, SARVOLTIG_RESULT);
-
+    rows.count = (size_t)result[0];
+    rows.list = (uint32_t *)reserve(rows.count, sizeof *rows.list);
+    code = ask_rows(intake, &rows, rows.count, result);
     if (code != SARVOLTIG_DONE) {
         refuse(name, code, result);
+    }
+    return rows;
+}
+
+/* The numbers of row i of a table. */
+static void read_record(const Intake *intake, const Rows *rows, size_t i, uint64_t *result)
+{
+    uint32_t code = sarvoltig_record_in(intake->len, intake->image, (size_t)intake->len, intake->map, intake->map_len,
+                                        rows->table, rows->list, rows->count, i, result, SARVOLTIG_RESULT);
+
+    if (code != SARVOLTIG_DONE) {
+        refuse(rows->name, code, result);
     }
 }
 
@@ -258,58 +285,58 @@ static int compare_tracks(const void *a, const void *b)
 /* The rows of the playlist tree, by parent. */
 static void read_nodes(const Intake *intake, Library *library)
 {
-    static const char name[] = "playlist tree";
+    const Rows rows = read_rows(intake, SARVOLTIG_PLAYLIST_TREE, "playlist tree");
     uint64_t result[SARVOLTIG_RESULT];
-    size_t k;
+    size_t i;
 
-    library->node_count = count_rows(intake, SARVOLTIG_PLAYLIST_TREE, name);
-    library->nodes = (Node *)reserve(library->node_count, sizeof *library->nodes);
-    for (k = 0; k < library->node_count; k++) {
-        Node *node = &library->nodes[k];
+    library->node_rows = rows;
+    library->nodes = (Node *)reserve(rows.count, sizeof *library->nodes);
+    for (i = 0; i < rows.count; i++) {
+        Node *node = &library->nodes[i];
 
-        read_record(intake, SARVOLTIG_PLAYLIST_TREE, name, k, result);
-        node->k = k;
+        read_record(intake, &rows, i, result);
+        node->i = i;
         node->parent = result[SARVOLTIG_NODE_PARENT_ID];
         node->order = result[SARVOLTIG_NODE_SORT_ORDER];
         node->id = result[SARVOLTIG_NODE_ID];
         node->is_folder = result[SARVOLTIG_NODE_RAW_IS_FOLDER] != 0;
     }
-    qsort(library->nodes, library->node_count, sizeof *library->nodes, compare_nodes);
+    qsort(library->nodes, rows.count, sizeof *library->nodes, compare_nodes);
 }
 
 /* The entries of all playlists, by playlist. */
 static void read_entries(const Intake *intake, Library *library)
 {
-    static const char name[] = "playlist entries";
+    const Rows rows = read_rows(intake, SARVOLTIG_PLAYLIST_ENTRIES, "playlist entries");
     uint64_t result[SARVOLTIG_RESULT];
-    size_t k;
+    size_t i;
 
-    library->entry_count = count_rows(intake, SARVOLTIG_PLAYLIST_ENTRIES, name);
-    library->entries = (Entry *)reserve(library->entry_count, sizeof *library->entries);
-    for (k = 0; k < library->entry_count; k++) {
-        read_record(intake, SARVOLTIG_PLAYLIST_ENTRIES, name, k, result);
-        library->entries[k].playlist = result[SARVOLTIG_ENTRY_PLAYLIST_ID];
-        library->entries[k].index = result[SARVOLTIG_ENTRY_INDEX];
-        library->entries[k].track = result[SARVOLTIG_ENTRY_TRACK_ID];
+    library->entry_rows = rows;
+    library->entries = (Entry *)reserve(rows.count, sizeof *library->entries);
+    for (i = 0; i < rows.count; i++) {
+        read_record(intake, &rows, i, result);
+        library->entries[i].playlist = result[SARVOLTIG_ENTRY_PLAYLIST_ID];
+        library->entries[i].index = result[SARVOLTIG_ENTRY_INDEX];
+        library->entries[i].track = result[SARVOLTIG_ENTRY_TRACK_ID];
     }
-    qsort(library->entries, library->entry_count, sizeof *library->entries, compare_entries);
+    qsort(library->entries, rows.count, sizeof *library->entries, compare_entries);
 }
 
 /* The tracks, by id. */
 static void read_tracks(const Intake *intake, Library *library)
 {
-    static const char name[] = "tracks";
+    const Rows rows = read_rows(intake, SARVOLTIG_TRACKS, "tracks");
     uint64_t result[SARVOLTIG_RESULT];
-    size_t k;
+    size_t i;
 
-    library->track_count = count_rows(intake, SARVOLTIG_TRACKS, name);
-    library->tracks = (Track *)reserve(library->track_count, sizeof *library->tracks);
-    for (k = 0; k < library->track_count; k++) {
-        read_record(intake, SARVOLTIG_TRACKS, name, k, result);
-        library->tracks[k].k = k;
-        library->tracks[k].id = result[SARVOLTIG_TRACK_ID];
+    library->track_rows = rows;
+    library->tracks = (Track *)reserve(rows.count, sizeof *library->tracks);
+    for (i = 0; i < rows.count; i++) {
+        read_record(intake, &rows, i, result);
+        library->tracks[i].i = i;
+        library->tracks[i].id = result[SARVOLTIG_TRACK_ID];
     }
-    qsort(library->tracks, library->track_count, sizeof *library->tracks, compare_tracks);
+    qsort(library->tracks, rows.count, sizeof *library->tracks, compare_tracks);
 }
 
 /* Prints a character as UTF-8; what is no character, or would control a terminal, as U+FFFD. */
@@ -365,17 +392,17 @@ static void print_utf16(const uint8_t *text, size_t length)
     }
 }
 
-/* Prints a string of record k of a table. */
-static void print_text(const Intake *intake, uint32_t table, const char *name, uint64_t k, uint64_t slot)
+/* Prints a string of row i of a table. */
+static void print_text(const Intake *intake, const Rows *rows, size_t i, uint64_t slot)
 {
     uint64_t result[SARVOLTIG_RESULT];
-    uint32_t code = sarvoltig_text(intake->len, intake->image, (size_t)intake->len, intake->map, intake->map_len, table, k, slot,
-                                   result, SARVOLTIG_RESULT);
+    uint32_t code = sarvoltig_text_in(intake->len, intake->image, (size_t)intake->len, intake->map, intake->map_len,
+                                      rows->table, rows->list, rows->count, i, slot, result, SARVOLTIG_RESULT);
     const uint8_t *text;
     size_t length;
 
     if (code != SARVOLTIG_DONE) {
-        refuse(name, code, result);
+        refuse(rows->name, code, result);
     }
     text = intake->image + result[SARVOLTIG_TEXT_PLACE];
     length = (size_t)result[SARVOLTIG_TEXT_LENGTH];
@@ -391,7 +418,7 @@ static void print_tracks(const Intake *intake, const Library *library, uint64_t 
 {
     size_t i;
 
-    for (i = 0; i < library->entry_count; i++) {
+    for (i = 0; i < library->entry_rows.count; i++) {
         const Entry *entry = &library->entries[i];
         const Track *track;
         Track wanted;
@@ -399,14 +426,14 @@ static void print_tracks(const Intake *intake, const Library *library, uint64_t 
         if (entry->playlist != playlist) {
             continue;
         }
-        wanted.k = 0;
+        wanted.i = 0;
         wanted.id = entry->track;
-        track = (const Track *)bsearch(&wanted, library->tracks, library->track_count, sizeof wanted, compare_tracks);
+        track = (const Track *)bsearch(&wanted, library->tracks, library->track_rows.count, sizeof wanted, compare_tracks);
         printf("%*s%" PRIu64 ". ", 2 * level, "", entry->index);
         if (track == NULL) {
             printf("(no track %" PRIu64 ")", entry->track);
         } else {
-            print_text(intake, SARVOLTIG_TRACKS, "tracks", track->k, SARVOLTIG_SLOT_TITLE);
+            print_text(intake, &library->track_rows, track->i, SARVOLTIG_SLOT_TITLE);
         }
         putchar('\n');
     }
@@ -420,7 +447,7 @@ static void print_children(const Intake *intake, Library *library, uint64_t pare
     if (level > DEEPEST) {
         fail("playlist tree: folders are nested deeper than %d", DEEPEST);
     }
-    for (i = 0; i < library->node_count; i++) {
+    for (i = 0; i < library->node_rows.count; i++) {
         Node *node = &library->nodes[i];
 
         if (node->parent != parent || node->is_printed) {
@@ -428,7 +455,7 @@ static void print_children(const Intake *intake, Library *library, uint64_t pare
         }
         node->is_printed = 1;
         printf("%*s", 2 * level, "");
-        print_text(intake, SARVOLTIG_PLAYLIST_TREE, "playlist tree", node->k, 0);
+        print_text(intake, &library->node_rows, node->i, 0);
         puts(node->is_folder ? "/" : "");
         if (node->is_folder) {
             print_children(intake, library, node->id, level + 1);
@@ -436,6 +463,16 @@ static void print_children(const Intake *intake, Library *library, uint64_t pare
             print_tracks(intake, library, node->id, level + 1);
         }
     }
+}
+
+static void free_library(Library *library)
+{
+    free(library->tracks);
+    free(library->track_rows.list);
+    free(library->entries);
+    free(library->entry_rows.list);
+    free(library->nodes);
+    free(library->node_rows.list);
 }
 
 int main(int argc, char **argv)
@@ -459,17 +496,15 @@ int main(int argc, char **argv)
     read_entries(&intake, &library);
     read_tracks(&intake, &library);
     print_children(&intake, &library, 0, 0);
-    for (i = 0; i < library.node_count; i++) {
+    for (i = 0; i < library.node_rows.count; i++) {
         if (!library.nodes[i].is_printed) {
-            fail("playlist tree: row %" PRIu64 " has no way to the root", library.nodes[i].k);
+            fail("playlist tree: row %zu has no way to the root", library.nodes[i].i);
         }
     }
     if (fflush(stdout) != 0) {
         fail("standard output: %s", strerror(errno));
     }
-    free(library.tracks);
-    free(library.entries);
-    free(library.nodes);
+    free_library(&library);
     free(intake.map);
     free(intake.image);
     return 0;

@@ -12,8 +12,9 @@
  *     64          SARVOLTIG_SAME (deliveries)                 those of the function
  *     65          SARVOLTIG_WAITING (questions)               rows found, pages walked, page that is waited for
  *
- * A refusal changes no memory but the result. A question walks the table's pages from the first, so its time grows with the
- * table.
+ * A refusal changes no memory but the result. sarvoltig_rows, sarvoltig_record and sarvoltig_text walk the table's pages
+ * from the first, so their time grows with the table. To read many rows, call sarvoltig_rows once and read them from its
+ * list with sarvoltig_record_in and sarvoltig_text_in, which look at one page.
  *
  * A slice is a pointer and the number of elements that it points to. What the caller has to keep:
  *   - a pointer is aligned for its type and not NULL, also where the number is 0;
@@ -68,7 +69,7 @@ enum {
     SARVOLTIG_TEXT_FAULT = 15,    /* a string is malformed or outside: the page */
     SARVOLTIG_CHAIN_LOOP = 16,    /* a table's pages come back to one before the last */
     SARVOLTIG_LIST_SHORT = 17,    /* the list is shorter than the rows found: the rows found */
-    SARVOLTIG_NO_ROW = 18,        /* the table has no such record */
+    SARVOLTIG_NO_ROW = 18,        /* the table has no such record, or the list no such row */
     SARVOLTIG_NO_SLOT = 19        /* the table's records have no such string slot */
 };
 
@@ -229,6 +230,42 @@ uint32_t sarvoltig_text(uint64_t len,
                         const uint64_t *map, size_t map_len,
                         uint32_t table, uint64_t k, uint64_t slot,
                         uint64_t *result, size_t result_len);
+
+/*
+ * Reads the record of a row from a list of places that sarvoltig_rows wrote: the row of element i, from 0. Of the file it
+ * looks at block 0 and at the row's page alone, and it writes nothing but the result. Any list and any i are answered.
+ *
+ *     0           the record's numbers, as sarvoltig_record gives them
+ *     65          0 rows, 0 pages, and the row's page, which is not wholly held; page 0 where block 0 is not held
+ *     1 to 4, 8, 9, 12 to 15, 18   refused, 14 and 15 for this row alone. 18: the list has no element i, or the element is
+ *                                  not the place of a row
+ *
+ * For the list as sarvoltig_rows left it and i below the rows found, the answer is that of sarvoltig_record for k = i, and
+ * it stays as more blocks arrive. The elements before i tell which of the page's rows is meant, as two may start at one
+ * place: pass the list from its first element on.
+ */
+uint32_t sarvoltig_record_in(uint64_t len,
+                             const uint8_t *image, size_t image_len,
+                             const uint64_t *map, size_t map_len,
+                             uint32_t table,
+                             const uint32_t *list, size_t list_len,
+                             uint64_t i,
+                             uint64_t *result, size_t result_len);
+
+/*
+ * Reads a string slot of a row from a list, as sarvoltig_record_in reads its record.
+ *
+ *     0           place, length and encoding, as sarvoltig_text gives them
+ *     65          0 rows, 0 pages and the page, as above
+ *     1 to 4, 8, 9, 12 to 15, 18, 19   refused, as above; 19 for a slot that the table has not
+ */
+uint32_t sarvoltig_text_in(uint64_t len,
+                           const uint8_t *image, size_t image_len,
+                           const uint64_t *map, size_t map_len,
+                           uint32_t table,
+                           const uint32_t *list, size_t list_len,
+                           uint64_t i, uint64_t slot,
+                           uint64_t *result, size_t result_len);
 
 #ifdef __cplusplus
 }

@@ -112,6 +112,16 @@ static uint32_t text(uint32_t table, uint64_t k, uint64_t slot)
     return sarvoltig_text(LEN, image, LEN, map, 1, table, k, slot, clear(), SARVOLTIG_RESULT);
 }
 
+static uint32_t record_in(uint32_t table, size_t length, uint64_t i)
+{
+    return sarvoltig_record_in(LEN, image, LEN, map, 1, table, list, length, i, clear(), SARVOLTIG_RESULT);
+}
+
+static uint32_t text_in(uint32_t table, size_t length, uint64_t i, uint64_t slot)
+{
+    return sarvoltig_text_in(LEN, image, LEN, map, 1, table, list, length, i, slot, clear(), SARVOLTIG_RESULT);
+}
+
 static void run_intake(void)
 {
     answers("delivery before any opening", sarvoltig_deliver(0, image, LEN, map, 1, 0, file, 512, clear(), SARVOLTIG_RESULT),
@@ -163,6 +173,83 @@ static void run_questions(void)
     expect(map[0] == 7 && memcmp(image, file, LEN) == 0, "a question leaves image and map");
 }
 
+/* The list has the row's place, then elements that the question for all rows left as they were. */
+static void run_lists(void)
+{
+    answers("record in the list", record_in(SARVOLTIG_GENRES, ROWS, 0), SARVOLTIG_DONE, 1, 7, 0, 0);
+    answers("text in the list", text_in(SARVOLTIG_GENRES, ROWS, 0, 0), SARVOLTIG_DONE, 3, 1085, 4, SARVOLTIG_ASCII);
+    answers("record in a list of one", record_in(SARVOLTIG_GENRES, 1, 0), SARVOLTIG_DONE, 1, 7, 0, 0);
+    answers("record in no list", record_in(SARVOLTIG_GENRES, 0, 0), SARVOLTIG_NO_ROW, 1, 0, 0, 0);
+    answers("record past the list", record_in(SARVOLTIG_GENRES, 1, 1), SARVOLTIG_NO_ROW, 1, 0, 0, 0);
+    answers("text past the list", text_in(SARVOLTIG_GENRES, 1, 1, 0), SARVOLTIG_NO_ROW, 1, 0, 0, 0);
+    answers("record in the list, 2^32", record_in(SARVOLTIG_GENRES, ROWS, (uint64_t)1 << 32), SARVOLTIG_NO_ROW, 1, 0, 0, 0);
+    answers("text in the list, 2^64 - 1", text_in(SARVOLTIG_GENRES, ROWS, UINT64_MAX, 0), SARVOLTIG_NO_ROW, 1, 0, 0, 0);
+    answers("text in the list of slot 1", text_in(SARVOLTIG_GENRES, ROWS, 0, 1), SARVOLTIG_NO_SLOT, 1, 0, 0, 0);
+    answers("text in the list of slot 2^32", text_in(SARVOLTIG_GENRES, ROWS, 0, (uint64_t)1 << 32), SARVOLTIG_NO_SLOT, 1, 0, 0,
+            0);
+    answers("text past the list of slot 1", text_in(SARVOLTIG_GENRES, 1, 1, 1), SARVOLTIG_NO_SLOT, 1, 0, 0, 0);
+    answers("record in the list of an unknown table", record_in(9, ROWS, 0), SARVOLTIG_TABLE_TYPE, 1, 0, 0, 0);
+    answers("text in the list of table 2^32 - 1", text_in(UINT32_MAX, ROWS, 0, 1), SARVOLTIG_TABLE_TYPE, 1, 0, 0, 0);
+    answers("record in the list of another table", record_in(SARVOLTIG_KEYS, ROWS, 0), SARVOLTIG_PAGE_HEADER, 1, 2, 0, 0);
+    answers("text in the list of another table", text_in(SARVOLTIG_KEYS, ROWS, 0, 0), SARVOLTIG_PAGE_HEADER, 1, 2, 0, 0);
+    answers("record in a list, with no file",
+            sarvoltig_record_in(0, image, LEN, map, 1, SARVOLTIG_GENRES, list, ROWS, 0, clear(), SARVOLTIG_RESULT),
+            SARVOLTIG_LENGTH, 1, 0, 0, 0);
+    answers("text in a list, with no map",
+            sarvoltig_text_in(LEN, image, LEN, map, 0, SARVOLTIG_GENRES, list, ROWS, 0, 0, clear(), SARVOLTIG_RESULT),
+            SARVOLTIG_MAP_SHORT, 1, 0, 0, 0);
+}
+
+static void run_list_results(void)
+{
+    answers("record in the list with no result",
+            sarvoltig_record_in(LEN, image, LEN, map, 1, SARVOLTIG_GENRES, list, ROWS, 0, clear(), 0), SARVOLTIG_DONE, 0, 0, 0, 0);
+    answers("text in the list with a result of two",
+            sarvoltig_text_in(LEN, image, LEN, map, 1, SARVOLTIG_GENRES, list, ROWS, 0, 0, clear(), 2), SARVOLTIG_DONE, 2, 1085, 4,
+            0);
+    answers("text in the list with no result",
+            sarvoltig_text_in(LEN, image, LEN, map, 1, SARVOLTIG_GENRES, list, ROWS, 0, 0, clear(), 0), SARVOLTIG_DONE, 0, 0, 0, 0);
+    expect(map[0] == 7 && memcmp(image, file, LEN) == 0, "reading from a list leaves image and map");
+    expect(list[0] == 1080 && list[1] == 0xa5a5a5a5u, "reading from a list leaves the list");
+}
+
+/* Lists that no question wrote. */
+static void run_wrong_lists(void)
+{
+    static const uint32_t wrong[] = {1064, 1079, 1081, 0, 511, 552, 1535, 1536, UINT32_MAX};
+    size_t i;
+
+    for (i = 0; i < sizeof wrong / sizeof wrong[0]; i++) {
+        list[0] = wrong[i];
+        answers("record at a wrong place", record_in(SARVOLTIG_GENRES, ROWS, 0), SARVOLTIG_NO_ROW, 1, 0, 0, 0);
+        answers("text at a wrong place", text_in(SARVOLTIG_GENRES, ROWS, 0, 0), SARVOLTIG_NO_ROW, 1, 0, 0, 0);
+        expect(list[0] == wrong[i], "a refusal leaves the list that it reads");
+    }
+    list[1] = 1080;
+    answers("record behind a place on another page", record_in(SARVOLTIG_GENRES, ROWS, 1), SARVOLTIG_DONE, 1, 7, 0, 0);
+    list[0] = 1080;
+    answers("record at a repeated place", record_in(SARVOLTIG_GENRES, ROWS, 1), SARVOLTIG_NO_ROW, 1, 0, 0, 0);
+    answers("text at a repeated place", text_in(SARVOLTIG_GENRES, ROWS, 1, 0), SARVOLTIG_NO_ROW, 1, 0, 0, 0);
+    expect(list[0] == 1080 && list[1] == 1080 && list[2] == 0xa5a5a5a5u, "reading from a list leaves the list");
+}
+
+/* A new intake over the same buffers: the image has the file, but its blocks are not held. */
+static void run_list_waits(void)
+{
+    answers("opening again", sarvoltig_open(LEN, image, LEN, map, 1, clear(), SARVOLTIG_RESULT), SARVOLTIG_DONE, 1, 3, 0, 0);
+    answers("record in a list before any block", record_in(SARVOLTIG_GENRES, ROWS, 0), SARVOLTIG_WAITING, 3, 0, 0, 0);
+    answers("text past a list before any block", text_in(SARVOLTIG_GENRES, 1, 1, 0), SARVOLTIG_WAITING, 3, 0, 0, 0);
+    answers("block 0", deliver(0, file, 512), SARVOLTIG_DONE, 1, 1, 0, 0);
+    answers("record in a list with page 2 missing", record_in(SARVOLTIG_GENRES, ROWS, 0), SARVOLTIG_WAITING, 3, 0, 0, 2);
+    answers("text in a list with page 2 missing", text_in(SARVOLTIG_GENRES, ROWS, 0, 0), SARVOLTIG_WAITING, 3, 0, 0, 2);
+    answers("text past a list with page 2 missing", text_in(SARVOLTIG_GENRES, 1, 1, 0), SARVOLTIG_NO_ROW, 1, 0, 0, 0);
+    answers("block 2", deliver(2, file + 1024, 512), SARVOLTIG_DONE, 1, 2, 0, 0);
+    answers("record in a list with page 1 missing", record_in(SARVOLTIG_GENRES, ROWS, 0), SARVOLTIG_DONE, 1, 7, 0, 0);
+    answers("text in a list with page 1 missing", text_in(SARVOLTIG_GENRES, ROWS, 0, 0), SARVOLTIG_DONE, 3, 1085, 4,
+            SARVOLTIG_ASCII);
+    expect(map[0] == 5 && list[0] == 1080, "reading from a list leaves map and list, also when it waits");
+}
+
 int main(void)
 {
     size_t i;
@@ -171,6 +258,10 @@ int main(void)
     make_file();
     run_intake();
     run_questions();
+    run_lists();
+    run_list_results();
+    run_wrong_lists();
+    run_list_waits();
     for (i = 0; i < GUARD; i++) {
         expect(image[LEN + i] == 0xa5 && map[1 + i] == 0xa5a5a5a5a5a5a5a5u && list[ROWS + i] == 0xa5a5a5a5u,
                "nothing is written behind a slice");

@@ -13,9 +13,10 @@
 #include "sarvoltig.h"
 
 enum { LEN = 27648, BLOCKS = LEN / SARVOLTIG_BLOCK, WORDS = SARVOLTIG_MAP_WORDS(LEN), ROOM = 1000, N = SARVOLTIG_RESULT };
-enum { OPEN, DELIVER, ROWS, RECORD, TEXT, CALLS };
+enum { OPEN, DELIVER, ROWS, RECORD, TEXT, RECORD_IN, TEXT_IN, CALLS };
 
-static const char *const names[] = {"sarvoltig_open", "sarvoltig_deliver", "sarvoltig_rows", "sarvoltig_record", "sarvoltig_text"};
+static const char *const names[] = {"sarvoltig_open", "sarvoltig_deliver",   "sarvoltig_rows",   "sarvoltig_record",
+                                    "sarvoltig_text", "sarvoltig_record_in", "sarvoltig_text_in"};
 static uint8_t file[LEN], image[LEN], stack[1 << 16];
 static uint64_t map[WORDS], result[N];
 static uint32_t list[ROOM];
@@ -39,8 +40,14 @@ static void make_call(void)
     case RECORD:
         sarvoltig_record(LEN, image, LEN, map, WORDS, SARVOLTIG_TRACKS, 20, result, N);
         break;
-    default:
+    case TEXT:
         sarvoltig_text(LEN, image, LEN, map, WORDS, SARVOLTIG_TRACKS, 20, SARVOLTIG_SLOT_TITLE, result, N);
+        break;
+    case RECORD_IN:
+        sarvoltig_record_in(LEN, image, LEN, map, WORDS, SARVOLTIG_TRACKS, list, ROOM, 20, result, N);
+        break;
+    default:
+        sarvoltig_text_in(LEN, image, LEN, map, WORDS, SARVOLTIG_TRACKS, list, ROOM, 20, SARVOLTIG_SLOT_TITLE, result, N);
     }
 }
 

@@ -1,7 +1,7 @@
 //! An intake over a caller's image and map: deliveries and questions.
 
 use crate::raw::{self, DONE, RESULT, SAME, WAITING};
-use crate::{Encoding, Record, Refusal, Table, Text};
+use crate::{Encoding, Record, Refusal, Rows, Table, Text};
 
 /// Bytes in a block.
 pub const BLOCK: usize = 512;
@@ -78,13 +78,13 @@ impl Walk {
 pub enum Reply<T> {
     /// The row is there.
     Found(T),
-    /// The row was not found yet, and the walk waits.
+    /// The row was not found yet: a page is not wholly there.
     Waiting {
-        /// The page that is not wholly there, 0 for the directory.
+        /// That page, 0 for the directory.
         page: u64,
-        /// The rows found before it.
+        /// The rows found before it; 0 when a list was read.
         rows: u64,
-        /// The pages walked before it.
+        /// The pages walked before it; 0 when a list was read.
         pages: u64,
     },
 }
@@ -221,7 +221,7 @@ impl<'a> Intake<'a> {
         }
     }
 
-    /// Asks for all rows of a table, with a list of its own.
+    /// Asks for all rows of a table, with a list of its own, from which each row is read.
     ///
     /// # Errors
     /// Refusals 1 to 4 and 8 to 16.
@@ -234,46 +234,98 @@ impl<'a> Intake<'a> {
             }
             answer => answer?,
         };
-        Ok(Rows {
-            intake: self,
-            table,
-            walk,
-            places: list.into_iter().enumerate(),
-        })
+        Ok(Rows::new(self, table, walk, list))
     }
 
-    /// Asks for record `k` of a table, from 0.
+    /// Asks for record `k` of a table, from 0. It walks the whole table; to read many, see [`Intake::rows`].
     ///
     /// # Errors
     /// Refusals 1 to 4, 8 to 16, and 18 where the table has no such row.
     pub fn record(&self, table: Table, k: u64) -> Result<Reply<Record>, Refusal> {
-        let mut result = [0; RESULT];
-        let code = raw::record(
-            self.len,
-            self.image,
-            self.map,
-            table.number(),
-            k,
-            &mut result,
-        );
-        reply(code, &result, |n| Record::from_numbers(table, n))
+        record_reply(table, |result| {
+            raw::record(self.len, self.image, self.map, table.number(), k, result)
+        })
     }
 
-    /// Asks for a string of record `k` of a table, by its slot.
+    /// Asks for a string of record `k` of a table, by its slot. It walks the whole table.
     ///
     /// # Errors
     /// Refusals 1 to 4, 8 to 16, 18, and 19 where the table has no such slot.
     pub fn text(&self, table: Table, k: u64, slot: u64) -> Result<Reply<Text<'_>>, Refusal> {
+        self.text_reply(|result| {
+            let table = table.number();
+            raw::text(self.len, self.image, self.map, table, k, slot, result)
+        })
+    }
+
+    /// Reads the record of element `i` of a list that [`rows_into`](Self::rows_into) wrote, from 0. It looks at one page.
+    ///
+    /// For `i` below the rows found, the answer is that of [`record`](Self::record) for `i`, and it stays as more blocks
+    /// arrive. Any list is answered. The elements before `i` tell which of the page's rows is meant, as two may start at
+    /// one place: pass the list from its first element on.
+    ///
+    /// ```
+    /// # use sarvoltig::*;
+    /// # let file = std::fs::read("../tools/data/demo.pdb")?;
+    /// # let mut image = vec![0; file.len()];
+    /// # let mut map = vec![0; map_words(file.len() as u64)];
+    /// # let mut intake = Intake::open(&mut image, &mut map)?;
+    /// # for (number, piece) in (0..).zip(file.chunks(BLOCK)) {
+    /// #     intake.deliver(number, piece)?;
+    /// # }
+    /// let mut list = [0; 10];
+    /// assert_eq!(intake.rows_into(Table::Genres, &mut list)?.rows(), 5);
+    /// assert_eq!(intake.record_in(Table::Genres, &list, 4)?, intake.record(Table::Genres, 4)?);
+    /// // no row stands at place 0
+    /// assert_eq!(intake.record_in(Table::Genres, &list, 5), Err(Refusal::NoRow));
+    /// # Ok::<(), Box<dyn std::error::Error>>(())
+    /// ```
+    ///
+    /// # Errors
+    /// Refusals 1 to 4, 9, 12 to 15, and 18 where the list has no element `i` or that is not the place of a row.
+    pub fn record_in(&self, table: Table, list: &[u32], i: u64) -> Result<Reply<Record>, Refusal> {
+        record_reply(table, |result| {
+            let table = table.number();
+            raw::record_in(self.len, self.image, self.map, table, list, i, result)
+        })
+    }
+
+    /// Reads a string of element `i` of a list, by its slot, as [`record_in`](Self::record_in) reads its record.
+    ///
+    /// ```
+    /// # use sarvoltig::*;
+    /// # let file = std::fs::read("../tools/data/demo.pdb")?;
+    /// # let mut image = vec![0; file.len()];
+    /// # let mut map = vec![0; map_words(file.len() as u64)];
+    /// # let mut intake = Intake::open(&mut image, &mut map)?;
+    /// # for (number, piece) in (0..).zip(file.chunks(BLOCK)) {
+    /// #     intake.deliver(number, piece)?;
+    /// # }
+    /// let list = intake.rows(Table::PlaylistTree)?.into_places();
+    /// let name = intake.text_in(Table::PlaylistTree, &list, 1, 0)?.found();
+    /// assert_eq!(name.map(|name| name.to_string()).as_deref(), Some("Warm-up"));
+    /// # Ok::<(), Box<dyn std::error::Error>>(())
+    /// ```
+    ///
+    /// # Errors
+    /// Those of [`record_in`](Self::record_in), and 19 where the table has no such slot.
+    pub fn text_in(
+        &self,
+        table: Table,
+        list: &[u32],
+        i: u64,
+        slot: u64,
+    ) -> Result<Reply<Text<'_>>, Refusal> {
+        self.text_reply(|result| {
+            let table = table.number();
+            raw::text_in(self.len, self.image, self.map, table, list, i, slot, result)
+        })
+    }
+
+    /// The answer of a call for a string.
+    fn text_reply(&self, call: impl FnOnce(&mut [u64]) -> u32) -> Result<Reply<Text<'_>>, Refusal> {
         let mut result = [0; 3];
-        let code = raw::text(
-            self.len,
-            self.image,
-            self.map,
-            table.number(),
-            k,
-            slot,
-            &mut result,
-        );
+        let code = call(&mut result);
         reply(code, &result, |n| {
             let (at, size) = (n[0] as usize, n[1] as usize);
             Text {
@@ -287,6 +339,16 @@ impl<'a> Intake<'a> {
             }
         })
     }
+}
+
+/// The answer of a call for a record.
+fn record_reply(
+    table: Table,
+    call: impl FnOnce(&mut [u64]) -> u32,
+) -> Result<Reply<Record>, Refusal> {
+    let mut result = [0; RESULT];
+    let code = call(&mut result);
+    reply(code, &result, |n| Record::from_numbers(table, n))
 }
 
 /// The answer about one row from a code and its values.
@@ -303,87 +365,5 @@ fn reply<T, const N: usize>(
             pages: result[1],
         }),
         number => Err(Refusal::new(number, result[0])),
-    }
-}
-
-/// The rows of a table that were found, in order.
-#[derive(Debug)]
-pub struct Rows<'a> {
-    intake: &'a Intake<'a>,
-    table: Table,
-    walk: Walk,
-    places: std::iter::Enumerate<std::vec::IntoIter<u32>>,
-}
-
-impl Rows<'_> {
-    /// Where the walk came to: Full, or Waiting with more rows to come.
-    #[must_use]
-    pub fn walk(&self) -> Walk {
-        self.walk
-    }
-}
-
-impl<'a> Iterator for Rows<'a> {
-    type Item = Row<'a>;
-
-    fn next(&mut self) -> Option<Row<'a>> {
-        let (k, place) = self.places.next()?;
-        Some(Row {
-            intake: self.intake,
-            table: self.table,
-            k: k as u64,
-            place,
-        })
-    }
-
-    fn size_hint(&self) -> (usize, Option<usize>) {
-        self.places.size_hint()
-    }
-}
-
-impl ExactSizeIterator for Rows<'_> {}
-
-/// A row that was found. Each of its questions walks the table's pages again.
-#[derive(Clone, Copy, Debug)]
-pub struct Row<'a> {
-    intake: &'a Intake<'a>,
-    table: Table,
-    k: u64,
-    place: u32,
-}
-
-impl<'a> Row<'a> {
-    /// Its number among the table's rows, from 0.
-    #[must_use]
-    pub fn number(&self) -> u64 {
-        self.k
-    }
-
-    /// Where it starts in the image.
-    #[must_use]
-    pub fn place(&self) -> u32 {
-        self.place
-    }
-
-    /// Its record.
-    ///
-    /// # Errors
-    /// A row that was found is there, so none while the image and the map are as they were.
-    pub fn record(&self) -> Result<Record, Refusal> {
-        self.intake
-            .record(self.table, self.k)?
-            .found()
-            .ok_or(Refusal::NoRow)
-    }
-
-    /// The text of one of its string slots.
-    ///
-    /// # Errors
-    /// 19 where the table has no such slot.
-    pub fn text(&self, slot: u64) -> Result<Text<'a>, Refusal> {
-        self.intake
-            .text(self.table, self.k, slot)?
-            .found()
-            .ok_or(Refusal::NoRow)
     }
 }

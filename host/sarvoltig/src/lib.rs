@@ -2,7 +2,8 @@
 //!
 //! An [`Intake`] stands over an image and a map that the caller owns. Blocks are delivered as they come, and questions
 //! are asked at any time: all rows of a table, a record, a string of a record. An answer is complete, or waits at the
-//! first page that is not wholly there, or is a [`Refusal`], which changes no memory.
+//! first page that is not wholly there, or is a [`Refusal`], which changes no memory. A question for one record walks its
+//! whole table; the rows of [`Intake::rows`] are read from their list, each on its own page.
 //!
 //! The work is done by the library `lib/libsarvoltig.a`, whose functions are proved; this crate names its numbers.
 //! Rules are cited by their numbers in docs/RULES.md.
@@ -17,7 +18,7 @@
 //! for (number, bytes) in blocks() {
 //!     intake.deliver(number, &bytes)?;
 //! }
-//! for row in intake.rows(Table::PlaylistTree)? {
+//! for row in &intake.rows(Table::PlaylistTree)? {
 //!     println!("{}", row.text(0)?);
 //! }
 //! # Ok::<(), sarvoltig::Refusal>(())
@@ -30,11 +31,13 @@ mod intake;
 pub mod raw;
 mod record;
 mod refusal;
+mod rows;
 mod table;
 mod text;
 
-pub use intake::{map_words, Delivered, Intake, Reply, Row, Rows, Walk, BLOCK};
+pub use intake::{map_words, Delivered, Intake, Reply, Walk, BLOCK};
 pub use record::{Record, Track};
 pub use refusal::Refusal;
+pub use rows::{Row, RowIter, Rows};
 pub use table::Table;
 pub use text::{Encoding, Text};

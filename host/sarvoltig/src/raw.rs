@@ -1,4 +1,4 @@
-//! The five functions of the proved library over numbers and slices, as `include/sarvoltig.h` has them.
+//! The seven functions of the proved library over numbers and slices, as `include/sarvoltig.h` has them.
 //!
 //! Each returns a code: [`DONE`], [`SAME`], [`WAITING`], or a refusal's number. The answer's values go to the
 //! front of `result`, as many as it takes; [`RESULT`] words take every answer.
@@ -67,6 +67,33 @@ mod c {
             map_len: usize,
             table: u32,
             k: u64,
+            slot: u64,
+            result: *mut u64,
+            result_len: usize,
+        ) -> u32;
+        pub fn sarvoltig_record_in(
+            len: u64,
+            image: *const u8,
+            image_len: usize,
+            map: *const u64,
+            map_len: usize,
+            table: u32,
+            list: *const u32,
+            list_len: usize,
+            i: u64,
+            result: *mut u64,
+            result_len: usize,
+        ) -> u32;
+        pub fn sarvoltig_text_in(
+            len: u64,
+            image: *const u8,
+            image_len: usize,
+            map: *const u64,
+            map_len: usize,
+            table: u32,
+            list: *const u32,
+            list_len: usize,
+            i: u64,
             slot: u64,
             result: *mut u64,
             result_len: usize,
@@ -180,6 +207,65 @@ pub fn text(
             map.len(),
             table,
             k,
+            slot,
+            result.as_mut_ptr(),
+            result.len(),
+        )
+    }
+}
+
+/// Reads the record of element `i` of a list of places. Values: as of [`record`].
+pub fn record_in(
+    len: u64,
+    image: &[u8],
+    map: &[u64],
+    table: u32,
+    list: &[u32],
+    i: u64,
+    result: &mut [u64],
+) -> u32 {
+    // SAFETY: as in `open`.
+    unsafe {
+        c::sarvoltig_record_in(
+            len,
+            image.as_ptr(),
+            image.len(),
+            map.as_ptr(),
+            map.len(),
+            table,
+            list.as_ptr(),
+            list.len(),
+            i,
+            result.as_mut_ptr(),
+            result.len(),
+        )
+    }
+}
+
+/// Reads a string slot of element `i` of a list of places. Values: as of [`text`].
+#[allow(clippy::too_many_arguments)]
+pub fn text_in(
+    len: u64,
+    image: &[u8],
+    map: &[u64],
+    table: u32,
+    list: &[u32],
+    i: u64,
+    slot: u64,
+    result: &mut [u64],
+) -> u32 {
+    // SAFETY: as in `open`.
+    unsafe {
+        c::sarvoltig_text_in(
+            len,
+            image.as_ptr(),
+            image.len(),
+            map.as_ptr(),
+            map.len(),
+            table,
+            list.as_ptr(),
+            list.len(),
+            i,
             slot,
             result.as_mut_ptr(),
             result.len(),

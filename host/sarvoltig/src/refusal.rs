@@ -51,7 +51,7 @@ pub enum Refusal {
     ChainLoop,
     /// 17: the list is too short; the rows found.
     ListShort(u64),
-    /// 18: the table has no such row.
+    /// 18: the table has no such row, or the list does not have it there.
     NoRow,
     /// 19: the table has no such string slot.
     NoSlot,
@@ -162,7 +162,7 @@ impl fmt::Display for Refusal {
             Self::TextFault(page) => write!(f, "a string of page {page} is malformed"),
             Self::ChainLoop => write!(f, "the chain meets a page twice"),
             Self::ListShort(rows) => write!(f, "the list is too short for {rows} rows"),
-            Self::NoRow => write!(f, "the table has no such row"),
+            Self::NoRow => write!(f, "there is no such row"),
             Self::NoSlot => write!(f, "the table has no such string slot"),
             Self::Other { number, carries } => write!(f, "refusal {number} with {carries}"),
         }

@@ -1,9 +1,12 @@
 //! The Rust interface finds in generated exports what was put there, and bytes that no answer depends on change none.
 
-use sarvoltig::{map_words, Encoding, Intake, Record, Refusal, Table, Text, Track, Walk, BLOCK};
+use sarvoltig::{
+    map_words, Encoding, Intake, Record, Refusal, Reply, Table, Text, Track, Walk, BLOCK,
+};
 use sarvoltig_reference::generate::{export, Expected, ExpectedTable, Export, Options};
 use sarvoltig_reference::model::Encoding as Expects;
 use sarvoltig_reference::rng::Rng;
+use std::collections::HashMap;
 
 /// A file taken in whole, in order.
 fn with_intake<T>(file: &[u8], look: impl FnOnce(&Intake) -> T) -> T {
@@ -93,7 +96,7 @@ fn check_table(intake: &Intake, expected: &ExpectedTable) {
     };
     assert_eq!(rows.walk(), full);
     assert_eq!(rows.len(), expected.rows.len());
-    for (row, expected) in rows.zip(&expected.rows) {
+    for (row, expected) in rows.iter().zip(&expected.rows) {
         assert_eq!(row.place(), expected.place);
         assert_eq!(numbers(row.record().expect("found")), expected.numbers);
         for (slot, text) in (0..).zip(&expected.texts) {
@@ -121,6 +124,147 @@ fn finds_what_was_put_there() {
     }
 }
 
+/// What a list of places says about a table, by the questions that walk it.
+fn check_list(intake: &Intake, table: Table, list: &[u32]) {
+    for i in 0..list.len() as u64 {
+        assert_eq!(intake.record_in(table, list, i), intake.record(table, i));
+        for slot in [0, 17, 20, 21, 1 << 32] {
+            let read = intake.text_in(table, list, i, slot);
+            assert_eq!(read, intake.text(table, i, slot));
+        }
+    }
+    let past = list.len() as u64;
+    for i in [past, 1 << 32, u64::MAX] {
+        assert_eq!(intake.record_in(table, list, i), Err(Refusal::NoRow));
+    }
+}
+
+/// The rows found so far agree with the questions, and so do the lists of earlier answers, which are kept.
+fn check_rows(intake: &Intake, kept: &mut HashMap<Table, Vec<u32>>) {
+    for table in Table::ALL {
+        let Ok(rows) = intake.rows(table) else {
+            continue;
+        };
+        assert_eq!(rows.len() as u64, rows.walk().rows());
+        for row in &rows {
+            let record = intake.record(table, row.number()).expect("found");
+            assert_eq!(Some(row.record().expect("found")), record.found());
+        }
+        check_list(intake, table, rows.places());
+        if let Some(list) = kept.insert(table, rows.into_places()) {
+            check_list(intake, table, &list);
+        }
+    }
+}
+
+#[test]
+fn rows_from_lists_agree_with_the_questions() {
+    for seed in 200..260 {
+        let mut rng = Rng::new(seed);
+        let file = export(&Options::random(&mut rng)).bytes;
+        let mut image = rng.bytes(file.len());
+        let mut map = vec![0; map_words(file.len() as u64)];
+        let mut intake = Intake::open(&mut image, &mut map).expect("an allowed length");
+        let mut blocks: Vec<(u64, &[u8])> = (0..).zip(file.chunks(BLOCK)).collect();
+        rng.shuffle(&mut blocks[1..]);
+        let mut kept = HashMap::new();
+        let some = blocks.len().div_ceil(5);
+        for arrived in blocks.chunks(some) {
+            for &(block, piece) in arrived {
+                intake.deliver(block, piece).expect("a new block");
+            }
+            check_rows(&intake, &mut kept);
+        }
+    }
+}
+
+/// Refused with 18, the record and the string.
+fn check_refused(intake: &Intake, table: Table, list: &[u32], i: usize) {
+    let i = i as u64;
+    let refused = Some(Refusal::NoRow);
+    assert_eq!(intake.record_in(table, list, i).err(), refused);
+    if table != Table::PlaylistEntries {
+        assert_eq!(intake.text_in(table, list, i, 0).err(), refused);
+    }
+}
+
+/// The list of a table cut, shifted, begun late, with an element twice, and with places of no row.
+fn check_wrong_lists(intake: &Intake, table: Table, len_page: u32) {
+    let list = intake.rows(table).expect("a good table").into_places();
+    let shifted: Vec<u32> = list.iter().map(|place| place + 1).collect();
+    for (i, &place) in list.iter().enumerate() {
+        check_refused(intake, table, &list[..i], i);
+        check_refused(intake, table, &shifted, i);
+        for wrong in [0, len_page - 1, intake.file_len() as u32, u32::MAX] {
+            check_refused(intake, table, &[&list[..i], &[wrong]].concat(), i);
+        }
+        if list.get(i + 1) != Some(&place) {
+            check_refused(intake, table, &[&list[..=i], &[place]].concat(), i + 1);
+        }
+        let first = list.iter().find(|p| *p / len_page == place / len_page);
+        if first != Some(&place) {
+            check_refused(intake, table, &list[i..], 0);
+        }
+    }
+}
+
+#[test]
+fn wrong_lists_are_refused() {
+    for seed in 300..330 {
+        let options = Options::random(&mut Rng::new(seed));
+        let Export { bytes, expected } = export(&options);
+        with_intake(&bytes, |intake| {
+            for table in &expected.tables {
+                let table = Table::from_number(table.table.number().into());
+                check_wrong_lists(intake, table.expect("one of the ten"), options.len_page);
+            }
+        });
+    }
+}
+
+#[test]
+fn a_list_waits_for_its_page() {
+    let options = Options::default();
+    let Export { bytes, expected } = export(&options);
+    let mut image = bytes.clone();
+    let mut map = vec![0; map_words(bytes.len() as u64)];
+    let mut intake = Intake::open(&mut image, &mut map).expect("an allowed length");
+    let row = &expected.tables[0].rows[0];
+    let waits = |intake: &Intake, page| {
+        let (rows, pages) = (0, 0);
+        let waiting = Ok(Reply::Waiting { page, rows, pages });
+        intake.record_in(Table::Tracks, &[row.place], 0) == waiting
+    };
+    assert!(waits(&intake, 0));
+    intake.deliver(0, &bytes[..BLOCK]).expect("block 0");
+    let page = row.place / options.len_page;
+    let blocks_of_page = options.len_page as usize / BLOCK;
+    let blocks = (0..).zip(bytes.chunks(BLOCK));
+    let blocks = blocks.skip(page as usize * blocks_of_page);
+    for (block, piece) in blocks.take(blocks_of_page) {
+        assert!(waits(&intake, page.into()));
+        intake.deliver(block, piece).expect("a new block");
+    }
+    let found = intake.record_in(Table::Tracks, &[row.place], 0);
+    let found = found.expect("a row").found().expect("found");
+    assert_eq!(numbers(found), row.numbers);
+}
+
+#[test]
+fn rows_are_a_list() {
+    let file = export(&Options::default()).bytes;
+    with_intake(&file, |intake| {
+        let rows = intake.rows(Table::Genres).expect("a good table");
+        assert!(!rows.is_empty());
+        assert_eq!(rows.iter().len(), rows.len());
+        let numbers: Vec<u64> = rows.iter().rev().map(|row| row.number()).collect();
+        assert!(numbers.into_iter().rev().eq(0..rows.len() as u64));
+        let last = rows.get(rows.len() - 1).expect("a row");
+        assert_eq!(Some(&last.place()), rows.places().last());
+        assert!(rows.get(rows.len()).is_none());
+    });
+}
+
 /// Every answer about a whole file, in one text.
 fn answers(file: &[u8]) -> String {
     with_intake(file, |intake| {
@@ -128,7 +272,7 @@ fn answers(file: &[u8]) -> String {
         for table in Table::ALL {
             let rows = intake.rows(table);
             answers += &format!("{:?}\n", rows.as_ref().map(|rows| rows.walk()));
-            for row in rows.into_iter().flatten() {
+            for row in rows.iter().flatten() {
                 let texts: Vec<_> = (0..21).map(|slot| row.text(slot)).collect();
                 answers += &format!("{} {:?} {texts:?}\n", row.place(), row.record());
             }

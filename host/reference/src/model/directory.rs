@@ -68,11 +68,16 @@ impl Directory {
 
     /// Refusal 11 for a bad link, which stands in page `holder` (rule 2.20).
     pub fn check_link(&self, link: u32, holder: u32) -> Result<(), Refusal> {
-        if (1..self.pages).contains(&link) {
+        if self.has_page(link) {
             Ok(())
         } else {
             Err(Refusal::of_page(11, holder))
         }
+    }
+
+    /// Whether a page of this number is there, apart from page 0.
+    pub fn has_page(&self, number: u32) -> bool {
+        (1..self.pages).contains(&number)
     }
 }
 

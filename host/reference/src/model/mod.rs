@@ -2,7 +2,9 @@
 
 pub(crate) mod bytes;
 mod chain;
+mod contents;
 mod directory;
+mod listed;
 mod page;
 mod question;
 mod received;
@@ -13,10 +15,12 @@ mod source;
 mod string;
 mod table;
 
+pub use contents::RowContents;
 pub use page::{entries, index_size, GROUP_SIZE, PAGE_HEADER};
 pub use question::{RecordReply, Rows, TextReply};
 pub use received::Received;
 pub use refusal::Refusal;
+pub use row::Text;
 pub use session::{Delivered, Session, BLOCK_SIZE};
 pub use string::{read_string, Encoding, StringText};
 pub use table::Table;

@@ -74,48 +74,76 @@ impl<'a> Page<'a> {
         u32_at(self.bytes, 0x0c)
     }
 
-    /// Calls `visit` for each present row, in the order of the index.
-    pub fn for_each_row(&self, mut visit: impl FnMut(&Row)) -> Result<(), Refusal> {
-        let entries = self.entries();
+    /// Whether the page yields no rows, whatever its index.
+    pub fn without_rows(&self) -> bool {
+        let page_flags = self.bytes[0x1b];
+        page_flags & NO_ROWS_FLAG != 0
+    }
+
+    /// The row index, if it fits.
+    pub fn index(&self) -> Result<Index<'_, 'a>, Refusal> {
+        let entries = usize::from(entries(self.bytes[0x18], u16_at(self.bytes, 0x22)));
         let heap_end = self
             .bytes
             .len()
             .checked_sub(index_size(entries))
             .filter(|end| *end >= PAGE_HEADER)
             .ok_or(Refusal::of_page(13, self.number))?;
-        for offset in self.present_offsets(entries) {
-            let row = self
-                .row(PAGE_HEADER + offset, &self.bytes[..heap_end])
-                .map_err(|number| Refusal::of_page(number, self.number))?;
-            visit(&row);
+        Ok(Index {
+            page: self,
+            entries,
+            heap: &self.bytes[..heap_end],
+        })
+    }
+
+    /// Calls `visit` for each present row, in the order of the index.
+    pub fn for_each_row(&self, mut visit: impl FnMut(&Row)) -> Result<(), Refusal> {
+        if self.without_rows() {
+            return Ok(());
+        }
+        let index = self.index()?;
+        for start in index.present_starts() {
+            visit(&index.row(start)?);
         }
         Ok(())
     }
+}
 
-    fn entries(&self) -> usize {
-        let page_flags = self.bytes[0x1b];
-        if page_flags & NO_ROWS_FLAG != 0 {
-            return 0;
-        }
-        usize::from(entries(self.bytes[0x18], u16_at(self.bytes, 0x22)))
-    }
+/// The row index of a page.
+pub(super) struct Index<'p, 'a> {
+    page: &'p Page<'a>,
+    entries: usize,
+    /// The page up to the index.
+    heap: &'a [u8],
+}
 
-    fn present_offsets(&self, entries: usize) -> impl Iterator<Item = usize> + '_ {
-        (0..entries).filter_map(|entry| {
+impl<'a> Index<'_, 'a> {
+    /// Where each present row starts, counted from the page's start.
+    pub fn present_starts(&self) -> impl Iterator<Item = usize> + '_ {
+        let page = self.page.bytes;
+        (0..self.entries).filter_map(move |entry| {
             let (group, entry) = (entry / GROUP_ENTRIES, entry % GROUP_ENTRIES);
-            let flags_at = self.bytes.len() - GROUP_SIZE * group - PAD_SIZE - FLAGS_SIZE;
-            let present = u16_at(self.bytes, flags_at) >> entry & 1 == 1;
+            let flags_at = page.len() - GROUP_SIZE * group - PAD_SIZE - FLAGS_SIZE;
+            let present = u16_at(page, flags_at) >> entry & 1 == 1;
             present.then(|| {
-                let offset_at = flags_at - OFFSET_SIZE * (entry + 1);
-                usize::from(u16_at(self.bytes, offset_at))
+                let offset = usize::from(u16_at(page, flags_at - OFFSET_SIZE * (entry + 1)));
+                PAGE_HEADER + offset
             })
         })
     }
 
-    /// The row that starts `start` bytes into the page.
-    fn row(&self, start: usize, heap: &'a [u8]) -> Result<Row<'a>, u8> {
-        let bytes = heap.get(start..).ok_or(14)?;
-        let page_place = self.number * self.bytes.len() as u32;
-        Row::read(self.table, page_place + start as u32, bytes)
+    /// The row that starts `start` bytes into the page, once it is checked.
+    pub fn row(&self, start: usize) -> Result<Row<'a>, Refusal> {
+        let Page {
+            table,
+            number,
+            bytes,
+        } = *self.page;
+        let page_place = number * bytes.len() as u32;
+        self.heap
+            .get(start..)
+            .ok_or(14)
+            .and_then(|row| Row::read(table, page_place + start as u32, row))
+            .map_err(|refusal| Refusal::of_page(refusal, number))
     }
 }

@@ -79,29 +79,33 @@ pub enum TextReply {
 pub(super) fn rows(source: &impl Source, table: u32, list: &mut [u32]) -> Result<Rows, Refusal> {
     let table = asked_table(table)?;
     let mut places = Vec::new();
-    let Walked {
-        rows,
-        pages,
-        waiting,
-    } = walk(source, table, |_, row| places.push(row.place))?;
+    let walked = walk(source, table, |_, row| places.push(row.place))?;
     list.get_mut(..places.len())
         .ok_or(Refusal {
             number: 17,
-            carries: rows,
+            carries: walked.rows,
         })?
         .copy_from_slice(&places);
-    Ok(match waiting {
-        None => Rows::Full { rows, pages },
-        Some(page) => Rows::Waiting { page, rows, pages },
-    })
+    Ok(walked.into())
+}
+
+impl From<Walked> for Rows {
+    fn from(walked: Walked) -> Self {
+        let Walked {
+            rows,
+            pages,
+            waiting,
+        } = walked;
+        match waiting {
+            None => Rows::Full { rows, pages },
+            Some(page) => Rows::Waiting { page, rows, pages },
+        }
+    }
 }
 
 pub(super) fn record(source: &impl Source, table: u32, k: u64) -> Result<RecordReply, Refusal> {
     let table = asked_table(table)?;
-    Ok(match search(source, table, k, |row| Some(row.numbers()))? {
-        Search::Found(numbers) => RecordReply::Found(numbers),
-        Search::Waiting { page, rows, pages } => RecordReply::Waiting { page, rows, pages },
-    })
+    search(source, table, k, |row| Some(row.numbers())).map(Search::into)
 }
 
 pub(super) fn text(
@@ -114,28 +118,44 @@ pub(super) fn text(
     if slot >= table.slots() {
         return Err(Refusal::plain(19));
     }
-    Ok(match search(source, table, k, |row| row.text(slot))? {
-        Search::Found(Text {
-            place,
-            len,
-            encoding,
-        }) => TextReply::Found {
-            place,
-            len,
-            encoding,
-        },
-        Search::Waiting { page, rows, pages } => TextReply::Waiting { page, rows, pages },
-    })
+    search(source, table, k, |row| row.text(slot)).map(Search::into)
 }
 
 /// Rule 2.8.
-fn asked_table(number: u32) -> Result<Table, Refusal> {
+pub(super) fn asked_table(number: u32) -> Result<Table, Refusal> {
     Table::of_type(number).ok_or(Refusal::plain(8))
 }
 
-enum Search<T> {
+/// What is known of a row: what was read of it, or where the reading waits.
+pub(super) enum Search<T> {
     Found(T),
     Waiting { page: u32, rows: u64, pages: u64 },
+}
+
+impl From<Search<Vec<u64>>> for RecordReply {
+    fn from(search: Search<Vec<u64>>) -> Self {
+        match search {
+            Search::Found(numbers) => RecordReply::Found(numbers),
+            Search::Waiting { page, rows, pages } => RecordReply::Waiting { page, rows, pages },
+        }
+    }
+}
+
+impl From<Search<Text>> for TextReply {
+    fn from(search: Search<Text>) -> Self {
+        match search {
+            Search::Found(Text {
+                place,
+                len,
+                encoding,
+            }) => TextReply::Found {
+                place,
+                len,
+                encoding,
+            },
+            Search::Waiting { page, rows, pages } => TextReply::Waiting { page, rows, pages },
+        }
+    }
 }
 
 /// Rule 5.24: row k, if the walk finds it; if not, how the walk ended decides.

@@ -2,6 +2,7 @@
 
 use std::borrow::Cow;
 
+use super::listed;
 use super::question::{self, RecordReply, Rows, TextReply};
 use super::session::block_count;
 use super::source::Source;
@@ -98,6 +99,35 @@ impl Received {
     /// Refusals 8 to 16, 18 and 19.
     pub fn text(&self, table: impl Into<u32>, k: u64, slot: u64) -> Result<TextReply, Refusal> {
         question::text(self, table.into(), k, slot)
+    }
+
+    /// The record of element `i` of a list, as [`Session::record_in`](super::Session::record_in).
+    ///
+    /// # Errors
+    ///
+    /// Refusals 8, 9, 12 to 15 and 18.
+    pub fn record_in(
+        &self,
+        table: impl Into<u32>,
+        list: &[u32],
+        i: u64,
+    ) -> Result<RecordReply, Refusal> {
+        listed::record_in(self, table.into(), list, i)
+    }
+
+    /// A string of element `i` of a list, as [`Session::text_in`](super::Session::text_in).
+    ///
+    /// # Errors
+    ///
+    /// Refusals 8, 9, 12 to 15, 18 and 19.
+    pub fn text_in(
+        &self,
+        table: impl Into<u32>,
+        list: &[u32],
+        i: u64,
+        slot: u64,
+    ) -> Result<TextReply, Refusal> {
+        listed::text_in(self, table.into(), list, i, slot)
     }
 }
 

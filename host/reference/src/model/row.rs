@@ -16,9 +16,13 @@ pub(super) struct Row<'a> {
 }
 
 /// A string's text in the file.
-pub(super) struct Text {
+#[derive(Clone, Copy, Debug, PartialEq, Eq)]
+pub struct Text {
+    /// The text's absolute byte offset.
     pub place: u64,
+    /// Its length in bytes.
     pub len: u64,
+    /// Its encoding.
     pub encoding: Encoding,
 }
 
@@ -73,23 +77,31 @@ impl<'a> Row<'a> {
 
     /// The record's numbers, in the order of rule 5.16.
     pub fn numbers(&self) -> Vec<u64> {
+        let mut numbers = Vec::new();
+        self.append_numbers(&mut numbers);
+        numbers
+    }
+
+    /// Appends the record's numbers.
+    pub fn append_numbers(&self, numbers: &mut Vec<u64>) {
         let four = |at: usize| u64::from(u32_at(self.bytes, at));
         let two = |at: usize| u64::from(u16_at(self.bytes, at));
         let one = |at: usize| u64::from(self.bytes[at]);
         match self.table {
-            Table::Genres | Table::Labels | Table::Keys | Table::Artwork => vec![four(0x00)],
-            Table::Artists => vec![four(0x04)],
-            Table::Albums => vec![four(0x08), four(0x0c)],
-            Table::Colors => vec![two(0x05)],
-            Table::PlaylistTree => [0x00, 0x08, 0x0c, 0x10].map(four).into(),
-            Table::PlaylistEntries => [0x00, 0x04, 0x08].map(four).into(),
-            Table::Tracks => [0x08, 0x0c, 0x10, 0x1c]
-                .into_iter()
-                .chain((0x20..=0x48).step_by(4))
-                .map(four)
-                .chain([0x4c, 0x4e, 0x50, 0x52, 0x54].map(two))
-                .chain([0x58, 0x59].map(one))
-                .collect(),
+            Table::Genres | Table::Labels | Table::Keys | Table::Artwork => {
+                numbers.push(four(0x00));
+            }
+            Table::Artists => numbers.push(four(0x04)),
+            Table::Albums => numbers.extend([0x08, 0x0c].map(four)),
+            Table::Colors => numbers.push(two(0x05)),
+            Table::PlaylistTree => numbers.extend([0x00, 0x08, 0x0c, 0x10].map(four)),
+            Table::PlaylistEntries => numbers.extend([0x00, 0x04, 0x08].map(four)),
+            Table::Tracks => {
+                numbers.extend([0x08, 0x0c, 0x10, 0x1c].map(four));
+                numbers.extend((0x20..=0x48).step_by(4).map(four));
+                numbers.extend([0x4c, 0x4e, 0x50, 0x52, 0x54].map(two));
+                numbers.extend([0x58, 0x59].map(one));
+            }
         }
     }
 }

@@ -2,6 +2,8 @@
 
 use std::borrow::Cow;
 
+use super::contents::{self, RowContents};
+use super::listed;
 use super::question::{self, RecordReply, Rows, TextReply};
 use super::source::Source;
 use super::Refusal;
@@ -226,6 +228,99 @@ impl Session {
     pub fn text(&self, table: impl Into<u32>, k: u64, slot: u64) -> Result<TextReply, Refusal> {
         self.check_intake()?;
         question::text(self, table.into(), k, slot)
+    }
+
+    /// The record of the row that element `i` of `list` names, where a question
+    /// for all rows of the table wrote the list. One page is read.
+    ///
+    /// # Errors
+    ///
+    /// Refusals 1 to 4, 8, 9, 12 to 15 and 18.
+    ///
+    /// ```
+    /// # use sarvoltig_reference::{generate, model::{RecordReply, Session}};
+    /// # let file = generate::demo();
+    /// # let mut session = Session::new(file.clone(), vec![0; 8]);
+    /// # session.open(file.len() as u64)?;
+    /// # for (block, piece) in (0..).zip(file.chunks(512)) {
+    /// #     session.deliver(block, piece)?;
+    /// # }
+    /// let mut list = [0; 5];
+    /// session.rows(1u8, &mut list)?;
+    /// assert_eq!(session.record_in(1u8, &list, 4)?, RecordReply::Found(vec![5]));
+    /// assert!(session.record_in(1u8, &list, 5).is_err());
+    /// # Ok::<(), sarvoltig_reference::model::Refusal>(())
+    /// ```
+    pub fn record_in(
+        &self,
+        table: impl Into<u32>,
+        list: &[u32],
+        i: u64,
+    ) -> Result<RecordReply, Refusal> {
+        self.check_intake()?;
+        listed::record_in(self, table.into(), list, i)
+    }
+
+    /// String slot `slot` of the row that element `i` of `list` names, as
+    /// [`Session::record_in`].
+    ///
+    /// # Errors
+    ///
+    /// Refusals 1 to 4, 8, 9, 12 to 15, 18 and 19.
+    ///
+    /// ```
+    /// # use sarvoltig_reference::{generate, model::Session};
+    /// # let file = generate::demo();
+    /// # let mut session = Session::new(file.clone(), vec![0; 8]);
+    /// # session.open(file.len() as u64)?;
+    /// # for (block, piece) in (0..).zip(file.chunks(512)) {
+    /// #     session.deliver(block, piece)?;
+    /// # }
+    /// let mut list = [0; 5];
+    /// session.rows(1u8, &mut list)?;
+    /// assert_eq!(session.text_in(1u8, &list, 4, 0)?, session.text(1u8, 4, 0)?);
+    /// # Ok::<(), sarvoltig_reference::model::Refusal>(())
+    /// ```
+    pub fn text_in(
+        &self,
+        table: impl Into<u32>,
+        list: &[u32],
+        i: u64,
+        slot: u64,
+    ) -> Result<TextReply, Refusal> {
+        self.check_intake()?;
+        listed::text_in(self, table.into(), list, i, slot)
+    }
+
+    /// Calls `visit` for each row of a table in order, with its record and its
+    /// strings, and answers as [`Session::rows`] with room for all. After a
+    /// refusal the rows visited before the fault are not to be used.
+    ///
+    /// # Errors
+    ///
+    /// Refusals 1 to 4, 8 to 16.
+    ///
+    /// ```
+    /// # use sarvoltig_reference::{generate, model::{Rows, Session}};
+    /// # let file = generate::demo();
+    /// # let mut session = Session::new(file.clone(), vec![0; 8]);
+    /// # session.open(file.len() as u64)?;
+    /// # for (block, piece) in (0..).zip(file.chunks(512)) {
+    /// #     session.deliver(block, piece)?;
+    /// # }
+    /// let mut ids = Vec::new();
+    /// let rows = session.for_each_row(1u8, |row| ids.push(row.numbers[0]))?;
+    /// assert_eq!(rows, Rows::Full { rows: 5, pages: 1 });
+    /// assert_eq!(ids, [1, 2, 3, 4, 5]);
+    /// # Ok::<(), sarvoltig_reference::model::Refusal>(())
+    /// ```
+    pub fn for_each_row(
+        &self,
+        table: impl Into<u32>,
+        visit: impl FnMut(RowContents),
+    ) -> Result<Rows, Refusal> {
+        self.check_intake()?;
+        contents::for_each_row(self, table.into(), visit)
     }
 
     /// Rules 2.1 to 2.3; gives B.

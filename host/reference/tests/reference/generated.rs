@@ -3,10 +3,31 @@
 use sarvoltig_reference::generate::{
     big, demo, export, Expected, ExpectedRow, ExpectedTable, Export, Large, Options,
 };
-use sarvoltig_reference::model::{RecordReply, Refusal, Rows, Session, Table, TextReply};
+use sarvoltig_reference::model::{RecordReply, Refusal, Rows, Session, Table, Text, TextReply};
 use sarvoltig_reference::rng::Rng;
 
 use crate::{opened, whole};
+
+/// Reads all records and strings in one pass.
+fn check_contents(session: &Session, expected: &ExpectedTable) {
+    let mut rows = expected.rows.iter();
+    let answer = session.for_each_row(expected.table.number(), |found| {
+        let row = rows.next().expect("no more rows than expected");
+        assert_eq!((found.place, found.numbers), (row.place, &row.numbers[..]));
+        let texts = row.texts.iter().map(|text| Text {
+            place: text.place,
+            len: text.bytes.len() as u64,
+            encoding: text.encoding,
+        });
+        assert!(texts.eq(found.texts.iter().copied()));
+    });
+    let full = Rows::Full {
+        rows: expected.rows.len() as u64,
+        pages: expected.pages,
+    };
+    assert_eq!(answer, Ok(full));
+    assert!(rows.next().is_none());
+}
 
 /// Asks for all rows, and for the records and strings that `asked` chooses.
 fn check_table(session: &Session, expected: &ExpectedTable, mut asked: impl FnMut() -> bool) {
@@ -17,6 +38,7 @@ fn check_table(session: &Session, expected: &ExpectedTable, mut asked: impl FnMu
         pages: expected.pages,
     };
     assert_eq!(session.rows(table, &mut list), Ok(full));
+    check_contents(session, expected);
     for (k, row) in (0..).zip(&expected.rows) {
         assert_eq!(list[k as usize], row.place);
         if asked() {

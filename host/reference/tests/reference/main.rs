@@ -4,6 +4,7 @@ mod desk;
 mod examples;
 mod generated;
 mod lines;
+mod listed;
 mod refusals;
 mod runs;
 

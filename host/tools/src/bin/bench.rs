@@ -1,8 +1,9 @@
-//! `bench`: the library beside something else, in one run: taking in against memcpy, questions against the reference.
+//! `bench`: the library beside something else, in one run: taking in against memcpy, questions and reading from lists
+//! against the reference.
 
 use sarvoltig::{map_words, Intake, Table, Track, BLOCK};
 use sarvoltig_reference::generate;
-use sarvoltig_reference::model::Session;
+use sarvoltig_reference::model::{self, Session};
 use sarvoltig_reference::rng::Rng;
 use std::hint::black_box;
 use std::ops::Range;
@@ -31,12 +32,20 @@ fn timed<T>(work: impl FnOnce() -> T) -> Duration {
 /// One line of the table.
 fn line(what: &str, (library, other): (Duration, Duration)) {
     let ms = |d: Duration| d.as_secs_f64() * 1000.0;
-    let ratio = ms(library) / ms(other);
+    let (library, other) = (ms(library), ms(other));
+    let ratio = library / other;
     println!(
-        "| {what} | {:.3} | {:.3} | {ratio:.2} |",
-        ms(library),
-        ms(other)
+        "| {what} | {} | {} | {} |",
+        decimal(library, 3),
+        decimal(other, 3),
+        decimal(ratio, 2)
     );
+}
+
+/// A number with so many digits behind the point, or five where it is small.
+fn decimal(number: f64, digits: usize) -> String {
+    let digits = if number < 0.01 { 5 } else { digits };
+    format!("{number:.digits$}")
 }
 
 /// A file's blocks in shuffled order.
@@ -98,9 +107,8 @@ fn taking_in(megabytes: usize, runs: usize) {
     line(&format!("taking in {megabytes} MB, against memcpy"), times);
 }
 
-/// The three questions over an export of 8 MB with 20,000 tracks, against the reference.
-fn questions(runs: usize) {
-    let file = generate::big().bytes;
+/// An export taken in whole, by the library and by the reference.
+fn with_export(file: &[u8], measure: impl FnOnce(&Intake, &Session)) {
     let mut image = vec![0; file.len()];
     let mut map = vec![0; map_words(file.len() as u64)];
     let mut session = Session::new(image.clone(), map.clone());
@@ -110,27 +118,43 @@ fn questions(runs: usize) {
         intake.deliver(block, piece).expect("a new block");
         session.deliver(block, piece).expect("a new block");
     }
-    let times = fastest(
-        runs,
-        || all_rows(&intake),
-        || all_rows_of_reference(&session),
-    );
+    measure(&intake, &session);
+}
+
+/// A track in the middle of its table.
+const MIDDLE: u64 = 12_345;
+
+/// The three questions, against the reference.
+fn questions(intake: &Intake, session: &Session, runs: usize) {
+    let times = fastest(runs, || all_rows(intake), || all_rows_of_reference(session));
     line(
         "all rows of the ten tables of 8 MB, 20,000 tracks, against the reference",
         times,
     );
     let times = fastest(
         runs,
-        || timed(|| intake.record(Table::Tracks, 12_345)),
-        || timed(|| session.record(0u32, 12_345)),
+        || timed(|| intake.record(Table::Tracks, MIDDLE)),
+        || timed(|| session.record(0u32, MIDDLE)),
     );
     line("a track's record, against the reference", times);
     let times = fastest(
         runs,
-        || timed(|| intake.text(Table::Tracks, 12_345, Track::TITLE).is_ok()),
-        || timed(|| session.text(0u32, 12_345, Track::TITLE).is_ok()),
+        || timed(|| intake.text(Table::Tracks, MIDDLE, Track::TITLE).is_ok()),
+        || timed(|| session.text(0u32, MIDDLE, Track::TITLE).is_ok()),
     );
     line("a track's title, against the reference", times);
+}
+
+/// One title from a list, against the question for it.
+fn title_from_list(intake: &Intake, runs: usize) {
+    let rows = intake.rows(Table::Tracks).expect("a good table");
+    let track = rows.get(MIDDLE as usize).expect("a track");
+    let times = fastest(
+        runs,
+        || timed(|| track.text(Track::TITLE).is_ok()),
+        || timed(|| intake.text(Table::Tracks, MIDDLE, Track::TITLE).is_ok()),
+    );
+    line("a track's title from a list, against the question", times);
 }
 
 /// Room for the rows of any of the tables.
@@ -158,10 +182,115 @@ fn all_rows_of_reference(session: &Session) -> Duration {
     })
 }
 
+/// How many rows were read, and the bytes of their texts.
+#[derive(Debug, Default, PartialEq)]
+struct Read {
+    rows: u64,
+    text: u64,
+}
+
+/// Reads every record and string of the ten tables from lists; the questions for the lists are made here too.
+fn read_from_lists(intake: &Intake, list: &mut [u32]) -> Read {
+    let mut read = Read::default();
+    for table in Table::ALL {
+        let rows = intake.rows_into(table, list).expect("a good table").rows();
+        let list = &list[..rows as usize];
+        let slots = model::Table::of_type(table.number()).map_or(0, model::Table::slots);
+        for i in 0..rows {
+            black_box(intake.record_in(table, list, i).expect("a row"));
+            for slot in 0..slots {
+                let text = intake.text_in(table, list, i, slot).expect("a row");
+                read.text += text.found().map_or(0, |text| text.bytes.len() as u64);
+            }
+        }
+        read.rows += rows;
+    }
+    read
+}
+
+/// Reads the same in the reference's single pass over each table.
+fn read_in_one_pass(session: &Session) -> Read {
+    let mut read = Read::default();
+    for table in Table::ALL {
+        let visit = |row: model::RowContents| {
+            black_box(row.numbers);
+            read.rows += 1;
+            read.text += row.texts.iter().map(|text| text.len).sum::<u64>();
+        };
+        session
+            .for_each_row(table.number(), visit)
+            .expect("a good table");
+    }
+    read
+}
+
+/// All records and all strings of the ten tables, against the reference.
+fn contents(intake: &Intake, session: &Session, size: &str, runs: usize) {
+    let mut list = vec![0; ROOM];
+    assert_eq!(
+        read_from_lists(intake, &mut list),
+        read_in_one_pass(session)
+    );
+    let times = fastest(
+        runs,
+        || timed(|| read_from_lists(intake, &mut list)),
+        || timed(|| read_in_one_pass(session)),
+    );
+    line(
+        &format!("all records and strings of {size}, from lists, against the reference's pass"),
+        times,
+    );
+}
+
+fn number(file: &[u8], at: usize) -> u32 {
+    u32::from_le_bytes([file[at], file[at + 1], file[at + 2], file[at + 3]])
+}
+
+fn put(file: &mut [u8], at: usize, number: u32) {
+    file[at..at + 4].copy_from_slice(&number.to_le_bytes());
+}
+
+/// An export whose tables are twice as long: all its pages come a second time, and each chain goes on there.
+fn doubled(file: &[u8]) -> Vec<u8> {
+    const LEN_PAGE: usize = 0x04;
+    const NUM_TABLES: usize = 0x08;
+    const POINTERS: Range<usize> = 0x1c..BLOCK;
+    const FIRST_PAGE: usize = 0x08;
+    const LAST_PAGE: usize = 0x0c;
+    const PAGE_INDEX: usize = 0x04;
+    const NEXT_PAGE: usize = 0x0c;
+    let len_page = number(file, LEN_PAGE);
+    let start = |page: u32| (page * len_page) as usize;
+    let pages = file.len() as u32 / len_page;
+    let mut twice = [file, file].concat();
+    for page in 1..pages {
+        let next = number(file, start(page) + NEXT_PAGE);
+        let copy = start(pages + page);
+        put(&mut twice, copy + PAGE_INDEX, pages + page);
+        put(&mut twice, copy + NEXT_PAGE, pages.wrapping_add(next));
+    }
+    let pointers = POINTERS.step_by(16).take(number(file, NUM_TABLES) as usize);
+    for pointer in pointers {
+        let first = number(file, pointer + FIRST_PAGE);
+        let last = number(file, pointer + LAST_PAGE);
+        put(&mut twice, start(last) + NEXT_PAGE, pages + first);
+        put(&mut twice, pointer + LAST_PAGE, pages + last);
+    }
+    twice
+}
+
 fn main() {
     println!("| What | Library, ms | Other, ms | Ratio |\n|---|---|---|---|");
     taking_in(8, 100);
     taking_in(64, 5);
     taking_in(256, 2);
-    questions(60);
+    let big = generate::big().bytes;
+    with_export(&big, |intake, session| {
+        questions(intake, session, 60);
+        title_from_list(intake, 60);
+        contents(intake, session, "8 MB, 20,000 tracks", 20);
+    });
+    with_export(&doubled(&big), |intake, session| {
+        contents(intake, session, "16 MB, 40,000 tracks", 20);
+    });
 }

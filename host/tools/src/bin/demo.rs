@@ -4,9 +4,7 @@
 //! held and the rows known of each table, and at the end the playlists with their tracks. A row once listed is never
 //! taken back: each answer is compared with the one before.
 
-use sarvoltig::{
-    map_words, Delivered, Intake, Record, Refusal, Row, Table, Text, Track, Walk, BLOCK,
-};
+use sarvoltig::{map_words, Delivered, Intake, Record, Refusal, Table, Text, Track, Walk, BLOCK};
 use sarvoltig_reference::rng::Rng;
 use std::collections::{HashMap, HashSet};
 use std::fmt;
@@ -161,12 +159,10 @@ fn table_line(intake: &Intake, table: Table, progress: &mut Progress) -> String 
     match intake.rows(table) {
         Ok(rows) => {
             let walk = rows.walk();
-            let places: Vec<u32> = rows.map(|row| row.place()).collect();
-            let before = progress
-                .places
-                .insert(table, places.clone())
-                .unwrap_or_default();
-            assert!(places.starts_with(&before), "{name}: a row was taken back");
+            let listed = progress.places.entry(table).or_default();
+            let places = rows.into_places();
+            assert!(places.starts_with(listed), "{name}: a row was taken back");
+            *listed = places;
             let state = match walk {
                 Walk::Full { pages, .. } => format!("all {pages} pages"),
                 Walk::Waiting { page: 0, .. } => "waits for the directory".to_string(),
@@ -252,7 +248,7 @@ struct Node {
 
 fn nodes(intake: &Intake) -> Result<Vec<Node>, Refusal> {
     let mut nodes = Vec::new();
-    for row in intake.rows(Table::PlaylistTree)? {
+    for row in &intake.rows(Table::PlaylistTree)? {
         if let Record::PlaylistNode {
             parent_id,
             sort_order,
@@ -274,34 +270,34 @@ fn nodes(intake: &Intake) -> Result<Vec<Node>, Refusal> {
     Ok(nodes)
 }
 
-/// A four-byte number of a row, read where the row was found: a record question for each row would walk the table each time.
-fn number(intake: &Intake, row: &Row, offset: usize) -> u32 {
-    let at = row.place() as usize + offset;
-    let bytes = intake.image()[at..at + 4].iter();
-    bytes.rev().fold(0, |number, &b| number << 8 | u32::from(b))
-}
-
 /// The tracks of each playlist in their order, by id.
 fn entries(intake: &Intake) -> Result<HashMap<u32, Vec<(u32, u32)>>, Refusal> {
     let mut lists: HashMap<u32, Vec<(u32, u32)>> = HashMap::new();
-    for row in intake.rows(Table::PlaylistEntries)? {
-        let [index, track, playlist] =
-            [0x00, 0x04, 0x08].map(|offset| number(intake, &row, offset));
-        lists.entry(playlist).or_default().push((index, track));
+    for row in &intake.rows(Table::PlaylistEntries)? {
+        if let Record::PlaylistEntry {
+            entry_index,
+            track_id,
+            playlist_id,
+        } = row.record()?
+        {
+            let list = lists.entry(playlist_id).or_default();
+            list.push((entry_index, track_id));
+        }
     }
     lists.values_mut().for_each(|list| list.sort_unstable());
     Ok(lists)
 }
 
-/// The number of each track's row, by its id.
-fn track_rows(intake: &Intake) -> Result<HashMap<u32, u64>, Refusal> {
-    let mut numbers = HashMap::new();
-    for row in intake.rows(Table::Tracks)? {
-        numbers
-            .entry(number(intake, &row, 0x48))
-            .or_insert(row.number());
+/// The title of each track, by its id; the first track's where an id comes twice.
+fn titles<'a>(intake: &'a Intake) -> Result<HashMap<u32, Text<'a>>, Refusal> {
+    let mut titles = HashMap::new();
+    for row in &intake.rows(Table::Tracks)? {
+        if let Record::Track(track) = row.record()? {
+            let title = row.text(Track::TITLE)?;
+            titles.entry(track.id).or_insert(title);
+        }
     }
-    Ok(numbers)
+    Ok(titles)
 }
 
 /// The nodes in the order of the menu, each with its level. A folder is opened once, whatever the file says.
@@ -355,7 +351,7 @@ impl fmt::Display for Failure {
 /// Prints the playlists with their tracks, at most so many of each, folders opened out.
 fn playlists(intake: &Intake, most: usize) -> Result<(), Failure> {
     let mut out = io::stdout().lock();
-    let (nodes, entries, tracks) = (nodes(intake)?, entries(intake)?, track_rows(intake)?);
+    let (nodes, entries, titles) = (nodes(intake)?, entries(intake)?, titles(intake)?);
     for (level, node) in menu(&nodes) {
         let mark = if node.folder { "/" } else { "" };
         writeln!(out, "{}{}{mark}", "  ".repeat(level), node.name)?;
@@ -365,14 +361,10 @@ fn playlists(intake: &Intake, most: usize) -> Result<(), Failure> {
             .filter(|_| !node.folder)
             .map_or(&[][..], Vec::as_slice);
         for (index, id) in list.iter().take(most) {
-            let title = match tracks.get(id) {
-                Some(&k) => intake
-                    .text(Table::Tracks, k, Track::TITLE)?
-                    .found()
-                    .map(printable),
-                None => None,
+            let title = match titles.get(id) {
+                Some(&title) => printable(title),
+                None => format!("track {id} is missing"),
             };
-            let title = title.unwrap_or_else(|| format!("track {id} is missing"));
             writeln!(out, "{margin}{index:>4}  {title}")?;
         }
         if list.len() > most {
