@@ -2,7 +2,7 @@
 
 use std::collections::BTreeSet;
 
-use super::Call;
+use super::{Call, Run};
 use crate::damage::{apply, damage, Kind};
 use crate::generate::{export, Large, Options};
 use crate::layout::Layout;
@@ -131,7 +131,7 @@ fn run_with(export: &[u8], blocks: Vec<u64>, rng: &mut Rng) -> Vec<Call> {
         events_in: EVENTS_IN.max(blocks.len() as u64 / 8),
         rng,
         export,
-        session: Session::new(Vec::new(), Vec::new()),
+        run: Run::new(Session::new(Vec::new(), Vec::new())),
         calls: Vec::new(),
     };
     planner.start();
@@ -152,8 +152,8 @@ const EVENTS_IN: u64 = 40;
 struct Planner<'a> {
     rng: &'a mut Rng,
     export: &'a [u8],
-    /// The session after the calls so far, to know how many rows are found.
-    session: Session,
+    /// The run of the calls so far, to know what is held and found.
+    run: Run,
     calls: Vec<Call>,
     /// Tables that are mostly asked.
     tables: Vec<Table>,
@@ -164,7 +164,7 @@ struct Planner<'a> {
 
 impl Planner<'_> {
     fn make(&mut self, call: Call) {
-        call.make(&mut self.session);
+        call.make(&mut self.run);
         self.calls.push(call);
     }
 
@@ -302,7 +302,7 @@ impl Planner<'_> {
     }
 
     fn deliver_other_if_held(&mut self, block: u64) {
-        let word = self.session.map()[block as usize / 64];
+        let word = self.run.session().map()[block as usize / 64];
         if word >> (block % 64) & 1 == 1 {
             self.deliver_other(block);
         }
@@ -360,7 +360,7 @@ impl Planner<'_> {
     /// A bit at B or above is set for some calls.
     fn spare_bit(&mut self) {
         let last = self.counted_words() - 1;
-        let before = self.session.map()[last];
+        let before = self.run.session().map()[last];
         let bit = self.rng.pick(&[self.blocks() % 64, 63]);
         self.make(Call::Word {
             i: last as u64,
@@ -435,7 +435,7 @@ impl Planner<'_> {
 
     /// The rows found so far.
     fn rows_found(&self, table: u32) -> u64 {
-        let reply = self.session.rows(table, &mut []);
+        let reply = self.run.session().rows(table, &mut []);
         match reply {
             Ok(Rows::Full { rows, .. } | Rows::Waiting { rows, .. }) => rows,
             Err(refusal) if refusal.number == 17 => refusal.carries,

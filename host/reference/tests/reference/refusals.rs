@@ -3,7 +3,7 @@
 use std::collections::BTreeSet;
 
 use sarvoltig_reference::model::{Delivered, Rows, Session, BLOCK_SIZE};
-use sarvoltig_reference::schedule::{random_run, Answer, Call, Reply};
+use sarvoltig_reference::schedule::{random_run, Answer, Call, Reply, Run};
 
 /// The blocks of the image and the words of the map that differ.
 fn differences(before: &Session, after: &Session) -> (Vec<u64>, Vec<u64>) {
@@ -50,11 +50,11 @@ fn check_writes(before: &Session, after: &Session, call: &Call, answer: &Answer)
 fn every_refusal_is_reached_and_writes_nothing() {
     let mut reached = BTreeSet::new();
     for seed in 0..300 {
-        let mut session = Session::new(Vec::new(), Vec::new());
+        let mut run = Run::new(Session::new(Vec::new(), Vec::new()));
         for call in random_run(seed) {
-            let before = session.clone();
-            if let Some(answer) = call.make(&mut session) {
-                check_writes(&before, &session, &call, &answer);
+            let before = run.session().clone();
+            if let Some(answer) = call.make(&mut run) {
+                check_writes(&before, run.session(), &call, &answer);
                 reached.extend(answer.reply.err().map(|refusal| refusal.number));
             }
         }
