@@ -1,5 +1,7 @@
 //! Makes runs of calls.
 
+mod lists;
+
 use std::collections::BTreeSet;
 
 use super::{Call, Run};
@@ -8,6 +10,7 @@ use crate::generate::{export, Large, Options};
 use crate::layout::Layout;
 use crate::model::{Rows, Session, Table, BLOCK_SIZE};
 use crate::rng::Rng;
+use lists::ListMade;
 
 /// Of so many runs of the comparison one is large.
 const RUNS_FOR_A_LARGE_ONE: u64 = 100;
@@ -109,7 +112,8 @@ fn blocks_of_chains(file: &[u8], rng: &mut Rng) -> Vec<u64> {
 }
 
 /// A run of calls that brings the blocks of `export` in some order, with
-/// questions in between and calls that are refused.
+/// questions in between, lists that some of them read from, and calls that
+/// are refused.
 ///
 /// ```
 /// use sarvoltig_reference::{generate, rng::Rng, schedule::{schedule, Call}};
@@ -132,6 +136,7 @@ fn run_with(export: &[u8], blocks: Vec<u64>, rng: &mut Rng) -> Vec<Call> {
         rng,
         export,
         run: Run::new(Session::new(Vec::new(), Vec::new())),
+        list: ListMade::default(),
         calls: Vec::new(),
     };
     planner.start();
@@ -154,6 +159,7 @@ struct Planner<'a> {
     export: &'a [u8],
     /// The run of the calls so far, to know what is held and found.
     run: Run,
+    list: ListMade,
     calls: Vec<Call>,
     /// Tables that are mostly asked.
     tables: Vec<Table>,
@@ -404,10 +410,11 @@ impl Planner<'_> {
             _ if self.tables.is_empty() => 0,
             _ => u32::from(self.rng.pick(&self.tables).number()),
         };
-        match self.rng.below(3) {
+        match self.rng.below(5) {
             0 => self.ask_rows(table),
             1 => self.ask_record(table),
-            _ => self.ask_text(table),
+            2 => self.ask_text(table),
+            _ => self.ask_from_list(table),
         }
     }
 
@@ -430,6 +437,7 @@ impl Planner<'_> {
         for _ in 0..4 {
             self.ask_record(table);
             self.ask_text(table);
+            self.ask_from_list(table);
         }
     }
 
@@ -480,13 +488,17 @@ impl Planner<'_> {
 
     fn ask_text(&mut self, table: u32) {
         let k = self.any_k(table);
+        let slot = self.any_slot(table);
+        self.make(Call::Text { table, k, slot });
+    }
+
+    fn any_slot(&mut self, table: u32) -> u64 {
         let slots = Table::of_type(table).map_or(1, Table::slots);
         let good = self.rng.below(slots.max(1));
-        let slot = match self.rng.below(8) {
+        match self.rng.below(8) {
             0 => self.rng.pick(&[slots, slots + 1, u64::MAX]),
             1 => self.with_high_bit(good),
             _ => good,
-        };
-        self.make(Call::Text { table, k, slot });
+        }
     }
 }

@@ -2,7 +2,7 @@
 
 use std::collections::BTreeSet;
 
-use sarvoltig_reference::model::{Delivered, Rows, Session, BLOCK_SIZE};
+use sarvoltig_reference::model::{Delivered, RecordReply, Rows, Session, TextReply, BLOCK_SIZE};
 use sarvoltig_reference::schedule::{random_run, Answer, Call, Reply, Run};
 
 /// The blocks of the image and the words of the map that differ.
@@ -60,4 +60,32 @@ fn every_refusal_is_reached_and_writes_nothing() {
         }
     }
     assert_eq!(reached, (1..=19).collect());
+}
+
+#[test]
+fn calls_from_a_list_reach_every_refusal_that_they_have() {
+    let mut reached = BTreeSet::new();
+    let (mut found, mut waiting) = (0, 0);
+    for seed in 0..500 {
+        let mut run = Run::new(Session::new(Vec::new(), Vec::new()));
+        for call in random_run(seed) {
+            let answer = call.make(&mut run);
+            if !matches!(call, Call::RecordIn { .. } | Call::TextIn { .. }) {
+                continue;
+            }
+            match answer.expect("a question has an answer").reply {
+                Err(refusal) => drop(reached.insert(refusal.number)),
+                Ok(
+                    Reply::Record(_, RecordReply::Waiting { .. })
+                    | Reply::Text(TextReply::Waiting { .. }),
+                ) => waiting += 1,
+                Ok(_) => found += 1,
+            }
+        }
+    }
+    assert_eq!(
+        reached,
+        BTreeSet::from([1, 2, 3, 4, 8, 9, 12, 13, 14, 15, 18, 19])
+    );
+    assert!(found > 1000 && waiting > 1000, "{found}, {waiting}");
 }
