@@ -182,6 +182,8 @@ fn two_runs_with_equal_received_blocks_end_alike() {
 struct Earlier {
     written: HashMap<u32, Vec<u32>>,
     found: HashMap<(u32, u64, Option<u64>), Answer>,
+    /// By list and line of the call.
+    from_list: HashMap<(Vec<u32>, String), Answer>,
     faults: HashMap<u32, Refusal>,
 }
 
@@ -221,6 +223,15 @@ impl Earlier {
         }
     }
 
+    /// What was read from a list is read from it again, refusals too.
+    fn check_from_list(&mut self, list: &[u32], call: &Call, answer: &Answer) {
+        let line = call.to_line().filter(|line| line.contains("_in "));
+        if let (Some(line), false) = (line, answer.to_string().starts_with("wait")) {
+            let first = self.from_list.entry((list.to_vec(), line));
+            assert_eq!(first.or_insert_with(|| answer.clone()), answer);
+        }
+    }
+
     fn check_found(&mut self, question: (u32, u64, Option<u64>), answer: &Answer) {
         match self.found.get(&question) {
             Some(earlier) => assert_eq!(answer, earlier),
@@ -247,6 +258,7 @@ fn later_answers_keep_to_earlier_ones() {
         for call in run_calls(&file, rng) {
             if let Some(answer) = call.make(&mut run) {
                 earlier.check(&call, &answer);
+                earlier.check_from_list(run.list(), &call, &answer);
             }
             for table in Table::ALL.map(|table| u32::from(table.number())) {
                 let question = Call::Rows { table, room: 6000 };
