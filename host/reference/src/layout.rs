@@ -1,13 +1,27 @@
 //! File header and chains of a file, read as far as they can be used. The file may be damaged.
 
 use std::collections::HashSet;
+use std::ops::Range;
 
-use crate::model::bytes::u32_at;
-use crate::model::{Table, BLOCK_SIZE};
+use crate::model::bytes::{u16_at, u32_at};
+use crate::model::{entries, index_size, Table, BLOCK_SIZE, GROUP_SIZE, PAGE_HEADER};
 
 #[derive(Clone, Copy)]
 pub(crate) struct Layout<'a> {
     bytes: &'a [u8],
+}
+
+/// An entry of a page's row index. All places are in the file.
+pub(crate) struct Entry {
+    /// Where the presence flags of its group stand.
+    pub flags_at: usize,
+    /// Where its offset stands.
+    pub offset_at: usize,
+    pub present: bool,
+    /// Where its row starts, perhaps past the page.
+    pub start: usize,
+    /// The heap of its page.
+    pub heap: Range<usize>,
 }
 
 impl<'a> Layout<'a> {
@@ -60,5 +74,32 @@ impl<'a> Layout<'a> {
 
     pub fn page_start(self, page: u32) -> usize {
         page as usize * self.len_page()
+    }
+    pub fn page_type(self, page: u32) -> u32 {
+        u32_at(self.bytes, self.page_start(page) + 0x08)
+    }
+
+    /// The entries of a page, if it yields rows and its index fits.
+    pub fn entries(self, page: u32) -> Vec<Entry> {
+        let page_end = self.page_start(page) + self.len_page();
+        let header = &self.bytes[self.page_start(page)..][..PAGE_HEADER];
+        let count = usize::from(entries(header[0x18], u16_at(header, 0x22)));
+        let index = index_size(count);
+        if header[0x1b] & 0x40 != 0 || PAGE_HEADER + index > self.len_page() {
+            return Vec::new();
+        }
+        let heap = self.page_start(page) + PAGE_HEADER..page_end - index;
+        let entry = |entry: usize| {
+            let flags_at = page_end - GROUP_SIZE * (entry / 16) - 4;
+            let offset_at = flags_at - 2 - 2 * (entry % 16);
+            Entry {
+                flags_at,
+                offset_at,
+                present: u16_at(self.bytes, flags_at) >> (entry % 16) & 1 == 1,
+                start: heap.start + usize::from(u16_at(self.bytes, offset_at)),
+                heap: heap.clone(),
+            }
+        };
+        (0..count).map(entry).collect()
     }
 }

@@ -2,7 +2,7 @@
 
 use crate::library::Library;
 use sarvoltig_reference::model::Session;
-use sarvoltig_reference::schedule::{compared_run, Call};
+use sarvoltig_reference::schedule::{compared_run, Call, Run};
 
 /// Bytes of an image that are compared for each call, on the average.
 const COMPARED: usize = 1 << 18;
@@ -18,16 +18,18 @@ const COMPARED: usize = 1 << 18;
 #[must_use]
 pub fn difference(calls: &[Call]) -> Option<String> {
     let mut library = Library::default();
-    let mut session = Session::new(Vec::new(), Vec::new());
+    let mut run = Run::new(Session::new(Vec::new(), Vec::new()));
     let mut due = 0;
     for (number, call) in (1..).zip(calls) {
-        let expected = call.make(&mut session);
+        let expected = call.make(&mut run);
         let found = library.make(call);
+        let session = run.session();
         due += COMPARED;
         let given_up = matches!(calls.get(number), None | Some(Call::Lend { .. }));
         let compared = due >= session.image().len() || given_up;
         let same = found.as_ref() == Ok(&expected)
             && library.map() == session.map()
+            && library.list() == run.list()
             && (!compared || library.image() == session.image());
         if compared {
             due = 0;

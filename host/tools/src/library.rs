@@ -11,12 +11,13 @@ const UNTOUCHED: u64 = 0xeeee_eeee_eeee_eeee;
 /// Result words past those that an answer can need.
 const SPARE: usize = 2;
 
-/// The record and both buffers of a run on the library.
+/// The record and both buffers of a run on the library, and the list that its calls read from.
 #[derive(Debug, Default)]
 pub struct Library {
     len: u64,
     image: Vec<u8>,
     map: Vec<u64>,
+    list: Vec<u32>,
 }
 
 /// Why a call cannot be made.
@@ -75,6 +76,31 @@ impl Coded {
         Ok(Err(Refusal { number, carries }))
     }
 
+    /// A record, or where the reading waits.
+    fn record(&self, table: u32) -> Result<Result<Reply, Refusal>, Failure> {
+        self.answer(|c| match c.code {
+            DONE => Some(
+                c.values(numbers_in(table))
+                    .map(|v| RecordReply::Found(v.to_vec())),
+            ),
+            _ => c
+                .waits()
+                .map(|w| w.map(|(page, rows, pages)| RecordReply::Waiting { page, rows, pages })),
+        })
+        .map(|answer| answer.map(|reply| Reply::Record(table, reply)))
+    }
+
+    /// A string, or where the reading waits.
+    fn text(&self) -> Result<Result<Reply, Refusal>, Failure> {
+        self.answer(|c| match c.code {
+            DONE => Some(c.values(3).and_then(found_text)),
+            _ => c
+                .waits()
+                .map(|w| w.map(|(page, rows, pages)| TextReply::Waiting { page, rows, pages })),
+        })
+        .map(|answer| answer.map(Reply::Text))
+    }
+
     /// Rows, pages and page of a walk that waits.
     fn waits(&self) -> Option<Result<(u32, u64, u64), Failure>> {
         (self.code == WAITING).then(|| {
@@ -101,6 +127,12 @@ impl Library {
         &self.map
     }
 
+    /// The list that calls read from.
+    #[must_use]
+    pub fn list(&self) -> &[u32] {
+        &self.list
+    }
+
     /// Makes a call; what it answers, if it does.
     ///
     /// # Errors
@@ -115,6 +147,10 @@ impl Library {
                 self.write(i, value);
                 return Ok(None);
             }
+            Call::List { ref places } => {
+                self.list.clone_from(places);
+                return Ok(None);
+            }
             Call::Open { len } => self.open(len)?,
             Call::Deliver { block, ref piece } => self.deliver(block, piece)?,
             Call::Rows { table, room } => {
@@ -123,6 +159,8 @@ impl Library {
             }
             Call::Record { table, k } => self.record(table, k)?,
             Call::Text { table, k, slot } => self.text(table, k, slot)?,
+            Call::RecordIn { table, i } => self.record_in(table, i)?,
+            Call::TextIn { table, i, slot } => self.text_in(table, i, slot)?,
         };
         Ok(Some(Answer { reply, list }))
     }
@@ -185,32 +223,24 @@ impl Library {
     }
 
     fn record(&self, table: u32, k: u64) -> Result<Result<Reply, Refusal>, Failure> {
-        let coded =
-            Coded::of(|result| raw::record(self.len, &self.image, &self.map, table, k, result));
-        coded
-            .answer(|c| match c.code {
-                DONE => Some(
-                    c.values(numbers_in(table))
-                        .map(|v| RecordReply::Found(v.to_vec())),
-                ),
-                _ => c.waits().map(|w| {
-                    w.map(|(page, rows, pages)| RecordReply::Waiting { page, rows, pages })
-                }),
-            })
-            .map(|answer| answer.map(|reply| Reply::Record(table, reply)))
+        Coded::of(|result| raw::record(self.len, &self.image, &self.map, table, k, result))
+            .record(table)
     }
 
     fn text(&self, table: u32, k: u64, slot: u64) -> Result<Result<Reply, Refusal>, Failure> {
-        let coded =
-            Coded::of(|result| raw::text(self.len, &self.image, &self.map, table, k, slot, result));
-        coded
-            .answer(|c| match c.code {
-                DONE => Some(c.values(3).and_then(found_text)),
-                _ => c
-                    .waits()
-                    .map(|w| w.map(|(page, rows, pages)| TextReply::Waiting { page, rows, pages })),
-            })
-            .map(|answer| answer.map(Reply::Text))
+        Coded::of(|result| raw::text(self.len, &self.image, &self.map, table, k, slot, result))
+            .text()
+    }
+
+    fn record_in(&self, table: u32, i: u64) -> Result<Result<Reply, Refusal>, Failure> {
+        let (image, map, list) = (&self.image, &self.map, &self.list);
+        Coded::of(|result| raw::record_in(self.len, image, map, table, list, i, result))
+            .record(table)
+    }
+
+    fn text_in(&self, table: u32, i: u64, slot: u64) -> Result<Result<Reply, Refusal>, Failure> {
+        let (image, map, list) = (&self.image, &self.map, &self.list);
+        Coded::of(|result| raw::text_in(self.len, image, map, table, list, i, slot, result)).text()
     }
 }
 

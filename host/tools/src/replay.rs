@@ -15,7 +15,7 @@ pub enum Ending {
     Failed(u64, Failure),
 }
 
-/// The checksum of the image, the map and the call's list after a call.
+/// The checksum of the image, the map and the list that the call wrote to, after the call.
 fn checksum(library: &Library, answer: &Answer) -> u32 {
     let map: Vec<u8> = library
         .map()

@@ -38,7 +38,7 @@ fn stored_runs_have_their_answers() {
             count += 1;
         }
     }
-    assert!(count >= 8, "{count} stored runs");
+    assert!(count >= 9, "{count} stored runs");
 }
 
 #[test]

@@ -3,8 +3,7 @@
 use std::ops::Range;
 
 use crate::layout::Layout;
-use crate::model::bytes::{u16_at, u32_at};
-use crate::model::{entries, index_size, Table, GROUP_SIZE, PAGE_HEADER};
+use crate::model::Table;
 use crate::rng::Rng;
 
 pub(super) struct Target<'a> {
@@ -68,37 +67,26 @@ impl<'a> Target<'a> {
         let mut rows: Vec<Row> = layout
             .chain(pointer)
             .into_iter()
-            .flat_map(|page| self.rows(layout.page_start(page)))
+            .flat_map(|page| present_rows(layout, page))
             .collect();
         (!rows.is_empty()).then(|| rows.swap_remove(self.rng.index(rows.len())))
     }
+}
 
-    /// The present rows of a page, if its index fits.
-    fn rows(&self, page: usize) -> Vec<Row> {
-        let header = &self.bytes[page..page + PAGE_HEADER];
-        let Some(table) = Table::of_type(u32_at(header, 0x08)) else {
-            return Vec::new();
-        };
-        let entries = usize::from(entries(header[0x18], u16_at(header, 0x22)));
-        let index = index_size(entries);
-        if header[0x1b] & 0x40 != 0 || PAGE_HEADER + index > self.layout().len_page() {
-            return Vec::new();
-        }
-        let page_end = page + self.layout().len_page();
-        (0..entries)
-            .filter_map(|entry| {
-                let flags_at = page_end - GROUP_SIZE * (entry / 16) - 4;
-                let offset_at = flags_at - 2 - 2 * (entry % 16);
-                let heap = page + PAGE_HEADER..page_end - index;
-                let present = u16_at(self.bytes, flags_at) >> (entry % 16) & 1 == 1;
-                present.then(|| Row {
-                    table,
-                    flags_at,
-                    offset_at,
-                    start: heap.start + usize::from(u16_at(self.bytes, offset_at)),
-                    heap,
-                })
-            })
-            .collect()
-    }
+/// The present rows of a page.
+fn present_rows(layout: Layout, page: u32) -> Vec<Row> {
+    let Some(table) = Table::of_type(layout.page_type(page)) else {
+        return Vec::new();
+    };
+    let entries = layout.entries(page).into_iter();
+    entries
+        .filter(|entry| entry.present)
+        .map(|entry| Row {
+            table,
+            flags_at: entry.flags_at,
+            offset_at: entry.offset_at,
+            start: entry.start,
+            heap: entry.heap,
+        })
+        .collect()
 }

@@ -74,6 +74,7 @@ pub(super) fn fields(table: Table) -> &'static [Field] {
 /// The tables of an export with their rows.
 pub(super) type Tables = Vec<(Table, Vec<Row>)>;
 
+#[derive(Clone)]
 pub(super) struct Row {
     /// In the order of [`fields`].
     pub numbers: Vec<u64>,

@@ -6,6 +6,7 @@ use crate::model::{index_size, Table, PAGE_HEADER};
 use crate::rng::Rng;
 
 /// A row's bytes, of which only some are put; the others may be anything.
+#[derive(Clone)]
 pub(super) struct Chunk {
     pub len: usize,
     /// Bytes to put, each run with its offset from the row's start.

@@ -28,11 +28,13 @@ pub struct Options {
     pub seed: u64,
     /// The length of a page: a multiple of 512 from 512 to 32,768.
     pub len_page: u32,
-    /// Present rows of each table in the order of [`Table::ALL`]; a table
-    /// without a number has no pointer.
+    /// Rows of each table in the order of [`Table::ALL`], repeated ones not
+    /// counted; a table without a number has no pointer.
     pub rows: [Option<u32>; 10],
     /// How many of 100 rows come after an absent one.
     pub absent: u64,
+    /// After how many of 100 rows a further entry names a row of the page again.
+    pub repeated: u64,
     /// Before how many of 100 pages a page with flag `40` stands in the chain.
     pub strange: u64,
     /// Pages off the chains.
@@ -59,6 +61,7 @@ impl Default for Options {
             len_page: 4096,
             rows: [Some(20); 10],
             absent: 20,
+            repeated: 10,
             strange: 20,
             spare_pages: 2,
             min_pages: 0,
@@ -72,11 +75,13 @@ impl Default for Options {
 }
 
 impl Options {
-    /// An export without random bytes, absent rows and pages off the chains.
+    /// An export without random bytes, absent and repeated rows and pages off
+    /// the chains.
     pub fn tidy(len_page: u32) -> Self {
         Options {
             len_page,
             absent: 0,
+            repeated: 0,
             strange: 0,
             spare_pages: 0,
             shuffled: false,
@@ -102,7 +107,8 @@ impl Options {
             seed: rng.next_u64(),
             len_page: 512 * rng.pick(&[1, 1, 2, 3]),
             rows,
-            absent: 20,
+            absent: rng.pick(&[20, 60]),
+            repeated: rng.pick(&[0, 40]),
             strange: rng.pick(&[0, 20]),
             spare_pages: rng.below(2) as u32,
             longest_text: 30,
@@ -122,6 +128,7 @@ impl Options {
             len_page: blocks as u32 * BLOCK_SIZE as u32,
             rows: Table::ALL.map(|table| random_rows(table, blocks, rng)),
             absent: rng.pick(&[0, 10, 40]),
+            repeated: rng.pick(&[0, 0, 10, 40]),
             strange: rng.pick(&[0, 10, 50]),
             spare_pages: rng.below(3) as u32,
             min_pages: rng.pick(&[0, 0, 0, 64 / blocks, 65 / blocks]) as u32,
@@ -176,6 +183,7 @@ impl Options {
             len_page: 512 * rng.pick(&[64, 64, 16]),
             rows: one_table(table, rows),
             absent: rng.pick(&[0, 10]),
+            repeated: rng.pick(&[0, 10]),
             longest_text: 4,
             ..Options::seeded(rng)
         }

@@ -18,6 +18,8 @@ pub(super) struct Entry {
     pub len: usize,
     /// None is an absent row.
     pub row: Option<(Row, Chunk)>,
+    /// The earlier entry of the page that names the same row, if one does.
+    pub first: Option<usize>,
 }
 
 /// A page of a chain.
@@ -65,6 +67,25 @@ impl Page {
         self.heap += entry.gap + entry.len;
         self.entries.push(entry);
     }
+
+    /// A further entry for a row of the page, one of two times the last row.
+    fn name_again(&mut self, options: &Options, rng: &mut Rng) {
+        let count = self.entries.len();
+        let number = match rng.chance(1, 2) {
+            true => count - 1,
+            false => rng.index(count),
+        };
+        let named = &self.entries[number];
+        let again = Entry {
+            gap: 0,
+            len: 0,
+            row: named.row.clone(),
+            first: named.first.or(Some(number)),
+        };
+        if again.row.is_some() && self.fits(&again, options) {
+            self.push(again);
+        }
+    }
 }
 
 /// The chain of a table: at least one page.
@@ -77,6 +98,7 @@ pub(super) fn chain(table: Table, rows: Vec<Row>, options: &Options, rng: &mut R
                 gap: 0,
                 len: rng.index(30),
                 row: None,
+                first: None,
             };
             if page.fits(&absent, options) {
                 page.push(absent);
@@ -88,6 +110,9 @@ pub(super) fn chain(table: Table, rows: Vec<Row>, options: &Options, rng: &mut R
             entry.gap = 0;
         }
         page.push(entry);
+        if rng.chance(options.repeated, 100) {
+            page.name_again(options, rng);
+        }
     }
     pages.push(page);
     with_strange_pages(pages, options, rng)
@@ -103,6 +128,7 @@ fn row_entry(table: Table, row: Row, options: &Options, rng: &mut Rng) -> Entry 
         gap,
         len: chunk.len,
         row: Some((row, chunk)),
+        first: None,
     }
 }
 

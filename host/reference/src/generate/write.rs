@@ -224,20 +224,29 @@ impl Writer<'_> {
             offsets[number] = used + entries[number].gap;
             used = offsets[number] + entries[number].len;
         }
+        for (number, entry) in entries.iter().enumerate() {
+            if let Some(first) = entry.first {
+                offsets[number] = offsets[first];
+            }
+        }
         offsets
     }
 
     /// Document 003's figure of the table page. Pads and the offsets of absent
-    /// rows are not put.
+    /// rows are not put, though such an offset may lead to a row.
     fn put_index(&mut self, start: usize, entries: &[Entry], offsets: &[usize]) {
         let mut group_end = start + self.options.len_page as usize;
         for (entries, offsets) in entries.chunks(16).zip(offsets.chunks(16)) {
             let mut flags = self.unused_flags(entries.len());
             for (number, (entry, offset)) in entries.iter().zip(offsets).enumerate() {
+                let at = group_end - 6 - 2 * number;
                 if entry.row.is_some() {
                     flags |= 1 << number;
-                    let at = group_end - 6 - 2 * number;
                     self.file.put_u16(at, *offset as u16);
+                } else if !self.options.tidy && self.rng.chance(2, 3) {
+                    let any = self.rng.pick(offsets);
+                    let offset = self.rng.pick(&[*offset, any]) as u16;
+                    self.file.fill(at, &offset.to_le_bytes());
                 }
             }
             self.file.put_u16(group_end - 4, flags);

@@ -31,7 +31,8 @@ pub(super) fn text_in(
     read_in(source, table, list, i, |row| row.text(slot)).map(Search::into)
 }
 
-/// Reads the row that element `i` of the list names. Of the directory only len_page is used.
+/// Reads the row that element `i` of the list names. No pointer is looked at
+/// but for what breaks the file header.
 fn read_in<T>(
     source: &impl Source,
     table: Table,

@@ -4,7 +4,7 @@ use std::fmt;
 
 use crate::model::{Delivered, Encoding, RecordReply, Refusal, Rows, TextReply};
 
-/// The answer to a call, and its list if it had one.
+/// The answer to a call, and the list that it wrote to if it had one.
 #[derive(Clone, Debug, PartialEq, Eq)]
 pub struct Answer {
     /// What the call answered.

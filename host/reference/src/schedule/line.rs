@@ -28,6 +28,9 @@ impl Call {
             Call::Rows { table, room } => format!("rows {} {room}", narrow(*table)?),
             Call::Record { table, k } => format!("record {} {k}", narrow(*table)?),
             Call::Text { table, k, slot } => format!("string {} {k} {slot}", narrow(*table)?),
+            Call::List { places } => format!("list {}", numbers(places)),
+            Call::RecordIn { table, i } => format!("record_in {} {i}", narrow(*table)?),
+            Call::TextIn { table, i, slot } => format!("text_in {} {i} {slot}", narrow(*table)?),
         })
     }
 
@@ -43,7 +46,7 @@ impl Call {
     /// ```
     pub fn parse_line(line: &str) -> Option<Call> {
         let words: Vec<&str> = line.split(' ').collect();
-        Some(match words[..] {
+        let call = match words[..] {
             ["lend", image, words] => Call::Lend {
                 image: number(image)?,
                 words: number(words)?,
@@ -63,22 +66,44 @@ impl Call {
                     piece: bytes(piece)?,
                 }
             }
-            ["rows", table, room] => Call::Rows {
-                table: table_type(table)?,
-                room: number(room)?,
+            ["list", places] => Call::List {
+                places: list(places)?,
             },
-            ["record", table, k] => Call::Record {
-                table: table_type(table)?,
-                k: number(k)?,
-            },
-            ["string", table, k, slot] => Call::Text {
-                table: table_type(table)?,
-                k: number(k)?,
-                slot: number(slot)?,
-            },
+            [question, table, ref numbers @ ..] => parse_question(question, table, numbers)?,
             _ => return None,
-        })
+        };
+        Some(call)
     }
+}
+
+/// The question of a line's words.
+fn parse_question(question: &str, table: &str, numbers: &[&str]) -> Option<Call> {
+    let table = table_type(table)?;
+    Some(match (question, numbers) {
+        ("rows", [room]) => Call::Rows {
+            table,
+            room: number(room)?,
+        },
+        ("record", [k]) => Call::Record {
+            table,
+            k: number(k)?,
+        },
+        ("string", [k, slot]) => Call::Text {
+            table,
+            k: number(k)?,
+            slot: number(slot)?,
+        },
+        ("record_in", [i]) => Call::RecordIn {
+            table,
+            i: number(i)?,
+        },
+        ("text_in", [i, slot]) => Call::TextIn {
+            table,
+            i: number(i)?,
+            slot: number(slot)?,
+        },
+        _ => return None,
+    })
 }
 
 /// A type that a line can have.
@@ -94,6 +119,22 @@ fn table_type(word: &str) -> Option<u32> {
 fn number<T: FromStr>(word: &str) -> Option<T> {
     word.bytes().all(|b| b.is_ascii_digit()).then_some(())?;
     word.parse().ok()
+}
+
+/// Numbers with commas between them.
+fn numbers(numbers: &[u32]) -> String {
+    if numbers.is_empty() {
+        return "-".to_string();
+    }
+    let words: Vec<String> = numbers.iter().map(u32::to_string).collect();
+    words.join(",")
+}
+
+fn list(word: &str) -> Option<Vec<u32>> {
+    match word {
+        "-" => Some(Vec::new()),
+        _ => word.split(',').map(number).collect(),
+    }
 }
 
 fn hex(bytes: &[u8]) -> String {

@@ -4,14 +4,14 @@ mod answer;
 mod line;
 mod planner;
 mod replay;
-
-use crate::model::Session;
+mod run;
 
 pub use answer::{Answer, Reply};
 pub use planner::{compared_run, large_file, large_run, random_file, random_run, schedule};
 pub use replay::{crc32, replay, Replayed};
+pub use run::Run;
 
-/// A call, or something done to the buffers between calls.
+/// A call, or something done to the buffers or the list between calls.
 ///
 /// ```
 /// use sarvoltig_reference::schedule::Call;
@@ -71,59 +71,25 @@ pub enum Call {
         /// The string's slot.
         slot: u64,
     },
-}
-
-/// What each number of a list is before the call.
-const LIST_FILL: u32 = 0xeeee_eeee;
-
-impl Call {
-    /// Makes the call. `Lend` and `Word` have no answer.
-    ///
-    /// ```
-    /// use sarvoltig_reference::model::Session;
-    /// use sarvoltig_reference::schedule::{Call, Reply};
-    ///
-    /// let mut session = Session::new(vec![], vec![]);
-    /// assert_eq!(Call::Lend { image: 512, words: 1 }.make(&mut session), None);
-    /// let answer = Call::Open { len: 512 }.make(&mut session).unwrap();
-    /// assert_eq!(answer.reply, Ok(Reply::Open(1)));
-    /// ```
-    pub fn make(&self, session: &mut Session) -> Option<Answer> {
-        let mut list = Vec::new();
-        let reply = match *self {
-            Call::Lend { image, words } => {
-                session.replace_buffers(fresh_image(image), fresh_map(words));
-                return None;
-            }
-            Call::Word { i, value } => {
-                session.write_word(i, value);
-                return None;
-            }
-            Call::Open { len } => session.open(len).map(Reply::Open),
-            Call::Deliver { block, ref piece } => {
-                session.deliver(block, piece).map(Reply::Delivered)
-            }
-            Call::Rows { table, room } => {
-                list = vec![LIST_FILL; room];
-                session.rows(table, &mut list).map(Reply::Rows)
-            }
-            Call::Record { table, k } => session
-                .record(table, k)
-                .map(|reply| Reply::Record(table, reply)),
-            Call::Text { table, k, slot } => session.text(table, k, slot).map(Reply::Text),
-        };
-        Some(Answer { reply, list })
-    }
-}
-
-/// What a fresh image holds.
-fn fresh_image(len: usize) -> Vec<u8> {
-    (0..len).map(|i| (167 * (i % 256) + 13) as u8).collect()
-}
-
-/// What a fresh map holds: odd multiples of one number.
-fn fresh_map(words: usize) -> Vec<u64> {
-    (0..words as u64)
-        .map(|i| 0x0123_4567_89ab_cdef_u64.wrapping_mul(2 * i + 1))
-        .collect()
+    /// The list that later calls read from.
+    List {
+        /// Its places.
+        places: Vec<u32>,
+    },
+    /// The question for the record of an element of the list.
+    RecordIn {
+        /// The type asked.
+        table: u32,
+        /// The element's number, from 0.
+        i: u64,
+    },
+    /// The question for a string of an element of the list.
+    TextIn {
+        /// The type asked.
+        table: u32,
+        /// The element's number, from 0.
+        i: u64,
+        /// The string's slot.
+        slot: u64,
+    },
 }

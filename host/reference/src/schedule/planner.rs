@@ -1,13 +1,16 @@
 //! Makes runs of calls.
 
+mod lists;
+
 use std::collections::BTreeSet;
 
-use super::Call;
+use super::{Call, Run};
 use crate::damage::{apply, damage, Kind};
 use crate::generate::{export, Large, Options};
 use crate::layout::Layout;
 use crate::model::{Rows, Session, Table, BLOCK_SIZE};
 use crate::rng::Rng;
+use lists::ListMade;
 
 /// Of so many runs of the comparison one is large.
 const RUNS_FOR_A_LARGE_ONE: u64 = 100;
@@ -109,7 +112,8 @@ fn blocks_of_chains(file: &[u8], rng: &mut Rng) -> Vec<u64> {
 }
 
 /// A run of calls that brings the blocks of `export` in some order, with
-/// questions in between and calls that are refused.
+/// questions in between, lists that some of them read from, and calls that
+/// are refused.
 ///
 /// ```
 /// use sarvoltig_reference::{generate, rng::Rng, schedule::{schedule, Call}};
@@ -131,7 +135,8 @@ fn run_with(export: &[u8], blocks: Vec<u64>, rng: &mut Rng) -> Vec<Call> {
         events_in: EVENTS_IN.max(blocks.len() as u64 / 8),
         rng,
         export,
-        session: Session::new(Vec::new(), Vec::new()),
+        run: Run::new(Session::new(Vec::new(), Vec::new())),
+        list: ListMade::default(),
         calls: Vec::new(),
     };
     planner.start();
@@ -152,8 +157,9 @@ const EVENTS_IN: u64 = 40;
 struct Planner<'a> {
     rng: &'a mut Rng,
     export: &'a [u8],
-    /// The session after the calls so far, to know how many rows are found.
-    session: Session,
+    /// The run of the calls so far, to know what is held and found.
+    run: Run,
+    list: ListMade,
     calls: Vec<Call>,
     /// Tables that are mostly asked.
     tables: Vec<Table>,
@@ -164,7 +170,7 @@ struct Planner<'a> {
 
 impl Planner<'_> {
     fn make(&mut self, call: Call) {
-        call.make(&mut self.session);
+        call.make(&mut self.run);
         self.calls.push(call);
     }
 
@@ -302,7 +308,7 @@ impl Planner<'_> {
     }
 
     fn deliver_other_if_held(&mut self, block: u64) {
-        let word = self.session.map()[block as usize / 64];
+        let word = self.run.session().map()[block as usize / 64];
         if word >> (block % 64) & 1 == 1 {
             self.deliver_other(block);
         }
@@ -360,7 +366,7 @@ impl Planner<'_> {
     /// A bit at B or above is set for some calls.
     fn spare_bit(&mut self) {
         let last = self.counted_words() - 1;
-        let before = self.session.map()[last];
+        let before = self.run.session().map()[last];
         let bit = self.rng.pick(&[self.blocks() % 64, 63]);
         self.make(Call::Word {
             i: last as u64,
@@ -404,10 +410,11 @@ impl Planner<'_> {
             _ if self.tables.is_empty() => 0,
             _ => u32::from(self.rng.pick(&self.tables).number()),
         };
-        match self.rng.below(3) {
+        match self.rng.below(5) {
             0 => self.ask_rows(table),
             1 => self.ask_record(table),
-            _ => self.ask_text(table),
+            2 => self.ask_text(table),
+            _ => self.ask_from_list(table),
         }
     }
 
@@ -430,12 +437,13 @@ impl Planner<'_> {
         for _ in 0..4 {
             self.ask_record(table);
             self.ask_text(table);
+            self.ask_from_list(table);
         }
     }
 
     /// The rows found so far.
     fn rows_found(&self, table: u32) -> u64 {
-        let reply = self.session.rows(table, &mut []);
+        let reply = self.run.session().rows(table, &mut []);
         match reply {
             Ok(Rows::Full { rows, .. } | Rows::Waiting { rows, .. }) => rows,
             Err(refusal) if refusal.number == 17 => refusal.carries,
@@ -480,13 +488,17 @@ impl Planner<'_> {
 
     fn ask_text(&mut self, table: u32) {
         let k = self.any_k(table);
+        let slot = self.any_slot(table);
+        self.make(Call::Text { table, k, slot });
+    }
+
+    fn any_slot(&mut self, table: u32) -> u64 {
         let slots = Table::of_type(table).map_or(1, Table::slots);
         let good = self.rng.below(slots.max(1));
-        let slot = match self.rng.below(8) {
+        match self.rng.below(8) {
             0 => self.rng.pick(&[slots, slots + 1, u64::MAX]),
             1 => self.with_high_bit(good),
             _ => good,
-        };
-        self.make(Call::Text { table, k, slot });
+        }
     }
 }

@@ -2,7 +2,7 @@
 
 use std::fmt::Write;
 
-use super::{Answer, Call};
+use super::{Answer, Call, Run};
 use crate::model::bytes::u32_at;
 use crate::model::Session;
 
@@ -16,7 +16,7 @@ pub struct Replayed {
 }
 
 /// Makes the calls of the lines on a session. Before the first `lend` the
-/// buffers are empty.
+/// buffers are empty, before the first `list` the list.
 ///
 /// ```
 /// use sarvoltig_reference::schedule::replay;
@@ -29,22 +29,23 @@ pub struct Replayed {
 /// assert_eq!(replayed.status, 2);
 /// ```
 pub fn replay(lines: &str) -> Replayed {
-    let mut session = Session::new(Vec::new(), Vec::new());
+    let mut run = Run::new(Session::new(Vec::new(), Vec::new()));
     let mut output = String::new();
     for (number, line) in (1..).zip(lines.split_terminator('\n')) {
         let Some(call) = Call::parse_line(line) else {
             let _ = writeln!(output, "line {number}");
             return Replayed { output, status: 2 };
         };
-        if let Some(answer) = call.make(&mut session) {
-            let crc = checksum(&session, &answer);
+        if let Some(answer) = call.make(&mut run) {
+            let crc = checksum(run.session(), &answer);
             let _ = writeln!(output, "{answer} lent {crc:08x}");
         }
     }
     Replayed { output, status: 0 }
 }
 
-/// The CRC of the image, the map and the list, as they are after the call.
+/// The CRC of the image, the map and the list that the call wrote to, as they
+/// are after the call.
 fn checksum(session: &Session, answer: &Answer) -> u32 {
     let map = session.map().iter().flat_map(|word| word.to_le_bytes());
     let list = answer.list.iter().flat_map(|place| place.to_le_bytes());

@@ -144,6 +144,24 @@ fn generated_rows_are_of_every_kind() {
     }));
 }
 
+/// Pages on which a row is named twice, at once and after another row.
+#[test]
+fn generated_pages_name_rows_again() {
+    let again = |apart: usize| {
+        (0..100)
+            .map(|seed| export(&Options::random(&mut Rng::new(seed))))
+            .any(|export| {
+                let mut tables = export.expected.tables.iter();
+                tables.any(|table| {
+                    let places: Vec<u32> = table.rows.iter().map(|row| row.place).collect();
+                    let mut windows = places.windows(apart + 1);
+                    windows.any(|places| places[0] == places[apart])
+                })
+            })
+    };
+    assert!([1, 2, 3].into_iter().all(again));
+}
+
 fn len_page(file: &[u8]) -> usize {
     usize::from(file[0x05]) << 8
 }

@@ -1,7 +1,7 @@
 //! Calls as lines, and their replay.
 
 use sarvoltig_reference::model::Session;
-use sarvoltig_reference::schedule::{random_run, replay, Call};
+use sarvoltig_reference::schedule::{random_run, replay, Call, Run};
 
 use crate::desk::case_d;
 
@@ -41,6 +41,25 @@ fn other_lines_are_no_calls() {
         "record 1 0\r",
         "string 1 0",
         "word 0",
+        "list",
+        "list ",
+        "list ,",
+        "list 1,",
+        "list ,1",
+        "list 1,,2",
+        "list 1, 2",
+        "list 1 2",
+        "list +1",
+        "list -,1",
+        "list 4294967296",
+        "list 1,4294967296",
+        "record_in 1",
+        "record_in 256 0",
+        "record_in 1 18446744073709551616",
+        "record_in 1 0 0",
+        "text_in 1 0",
+        "text_in 1 0 -",
+        "text_in 1 0 0 0",
     ];
     for line in lines {
         assert_eq!(Call::parse_line(line), None, "{line}");
@@ -56,8 +75,8 @@ fn a_replay_prints_the_answers_of_the_calls() {
         let lines: String = lines.map(|line| line + "\n").collect();
         let replayed = replay(&lines);
         assert_eq!(replayed.status, 0);
-        let mut session = Session::new(Vec::new(), Vec::new());
-        let answers = calls.iter().filter_map(|call| call.make(&mut session));
+        let mut run = Run::new(Session::new(Vec::new(), Vec::new()));
+        let answers = calls.iter().filter_map(|call| call.make(&mut run));
         let answers: Vec<String> = answers.map(|answer| answer.to_string()).collect();
         let printed: Vec<&str> = replayed
             .output
@@ -112,4 +131,51 @@ fn case_d_replays() {
         "string 1 0 0",
     ];
     assert_eq!(replay(&input.join("\n")).output, CASE_D_OUTPUT);
+}
+
+#[test]
+fn lists_have_32_bit_numbers() {
+    let places = vec![0, 1080, u32::MAX];
+    let call = Call::List { places };
+    assert_eq!(Call::parse_line("list 0,1080,4294967295"), Some(call));
+    let empty = Call::List { places: vec![] };
+    assert_eq!(Call::parse_line("list -"), Some(empty));
+}
+
+/// The CRCs were computed by another program.
+#[test]
+fn case_d_replays_from_its_list() {
+    let deliver = |block: u64| {
+        let piece = case_d()[512 * block as usize..][..512].to_vec();
+        let call = Call::Deliver { block, piece };
+        call.to_line().expect("a delivery has a line")
+    };
+    let input = [
+        "list 1080",
+        "lend 1600 2",
+        "record_in 1 0",
+        "open 1536 0",
+        "record_in 1 0",
+        &deliver(2),
+        &deliver(0),
+        "text_in 1 0 0",
+        "record_in 1 0",
+        "list 512,1080",
+        "record_in 1 0",
+        "list -",
+        "record_in 1 0",
+    ];
+    let output = "\
+refused 1 0 0 lent 44e20924
+open 3 lent b9d2e835
+wait page 0 rows 0 pages 0 lent b9d2e835
+new 1 lent 637014c9
+new 2 lent 14ec8d81
+text 1085 4 ascii lent 14ec8d81
+record 1 7 lent 14ec8d81
+wait page 1 rows 0 pages 0 lent 14ec8d81
+refused 18 0 0 lent 14ec8d81
+";
+    let replayed = replay(&input.join("\n"));
+    assert_eq!((replayed.output.as_str(), replayed.status), (output, 0));
 }

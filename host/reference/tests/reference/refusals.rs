@@ -2,8 +2,8 @@
 
 use std::collections::BTreeSet;
 
-use sarvoltig_reference::model::{Delivered, Rows, Session, BLOCK_SIZE};
-use sarvoltig_reference::schedule::{random_run, Answer, Call, Reply};
+use sarvoltig_reference::model::{Delivered, RecordReply, Rows, Session, TextReply, BLOCK_SIZE};
+use sarvoltig_reference::schedule::{random_run, Answer, Call, Reply, Run};
 
 /// The blocks of the image and the words of the map that differ.
 fn differences(before: &Session, after: &Session) -> (Vec<u64>, Vec<u64>) {
@@ -50,14 +50,42 @@ fn check_writes(before: &Session, after: &Session, call: &Call, answer: &Answer)
 fn every_refusal_is_reached_and_writes_nothing() {
     let mut reached = BTreeSet::new();
     for seed in 0..300 {
-        let mut session = Session::new(Vec::new(), Vec::new());
+        let mut run = Run::new(Session::new(Vec::new(), Vec::new()));
         for call in random_run(seed) {
-            let before = session.clone();
-            if let Some(answer) = call.make(&mut session) {
-                check_writes(&before, &session, &call, &answer);
+            let before = run.session().clone();
+            if let Some(answer) = call.make(&mut run) {
+                check_writes(&before, run.session(), &call, &answer);
                 reached.extend(answer.reply.err().map(|refusal| refusal.number));
             }
         }
     }
     assert_eq!(reached, (1..=19).collect());
+}
+
+#[test]
+fn calls_from_a_list_reach_every_refusal_that_they_have() {
+    let mut reached = BTreeSet::new();
+    let (mut found, mut waiting) = (0, 0);
+    for seed in 0..500 {
+        let mut run = Run::new(Session::new(Vec::new(), Vec::new()));
+        for call in random_run(seed) {
+            let answer = call.make(&mut run);
+            if !matches!(call, Call::RecordIn { .. } | Call::TextIn { .. }) {
+                continue;
+            }
+            match answer.expect("a question has an answer").reply {
+                Err(refusal) => drop(reached.insert(refusal.number)),
+                Ok(
+                    Reply::Record(_, RecordReply::Waiting { .. })
+                    | Reply::Text(TextReply::Waiting { .. }),
+                ) => waiting += 1,
+                Ok(_) => found += 1,
+            }
+        }
+    }
+    assert_eq!(
+        reached,
+        BTreeSet::from([1, 2, 3, 4, 8, 9, 12, 13, 14, 15, 18, 19])
+    );
+    assert!(found > 1000 && waiting > 1000, "{found}, {waiting}");
 }

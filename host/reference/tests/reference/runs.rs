@@ -4,7 +4,7 @@ use std::collections::HashMap;
 
 use sarvoltig_reference::model::{Delivered, Received, Refusal, Rows, Session, Table, BLOCK_SIZE};
 use sarvoltig_reference::rng::Rng;
-use sarvoltig_reference::schedule::{random_file, schedule, Answer, Call, Reply};
+use sarvoltig_reference::schedule::{random_file, schedule, Answer, Call, Reply, Run};
 
 /// The deliveries and questions of a schedule.
 fn run_calls(file: &[u8], rng: &mut Rng) -> Vec<Call> {
@@ -19,10 +19,12 @@ fn run_calls(file: &[u8], rng: &mut Rng) -> Vec<Call> {
 }
 
 /// What the received blocks say of a call, before the call is entered.
-fn answer_by_received(received: &Received, call: &Call) -> Option<Answer> {
+fn answer_by_received(received: &Received, call: &Call, read_from: &[u32]) -> Option<Answer> {
     let mut list = Vec::new();
     let reply = match *call {
-        Call::Lend { .. } | Call::Word { .. } | Call::Open { .. } => return None,
+        Call::Lend { .. } | Call::Word { .. } | Call::Open { .. } | Call::List { .. } => {
+            return None
+        }
         Call::Deliver { block, ref piece } => delivered_by_received(received, block, piece),
         Call::Rows { table, room } => {
             list = vec![0xeeee_eeee; room];
@@ -32,6 +34,12 @@ fn answer_by_received(received: &Received, call: &Call) -> Option<Answer> {
             .record(table, k)
             .map(|reply| Reply::Record(table, reply)),
         Call::Text { table, k, slot } => received.text(table, k, slot).map(Reply::Text),
+        Call::RecordIn { table, i } => received
+            .record_in(table, read_from, i)
+            .map(|reply| Reply::Record(table, reply)),
+        Call::TextIn { table, i, slot } => {
+            received.text_in(table, read_from, i, slot).map(Reply::Text)
+        }
     };
     Some(Answer { reply, list })
 }
@@ -85,21 +93,22 @@ fn each_answer_and_the_buffers_at_the_end_are_what_the_received_blocks_say() {
         session
             .open(file.len() as u64)
             .expect("the buffers are long enough");
+        let mut run = Run::new(session);
         let mut received =
             Received::open(file.len() as u64).expect("an export's length is allowed");
         for call in run_calls(&file, rng) {
-            let mut expected = answer_by_received(&received, &call);
+            let mut expected = answer_by_received(&received, &call, run.list());
             if let Call::Deliver { block, ref piece } = call {
                 if block >= (file.len() / BLOCK_SIZE) as u64 {
                     expected = Some(refused_answer(5));
                 }
                 received.deliver(block, piece);
             }
-            assert_eq!(call.make(&mut session), expected, "{call:?}");
+            assert_eq!(call.make(&mut run), expected, "{call:?}");
         }
         buffers_by_received(&received, file.len(), &mut image, &mut map);
-        assert_eq!(session.image(), image);
-        assert_eq!(session.map(), map);
+        assert_eq!(run.session().image(), image);
+        assert_eq!(run.session().map(), map);
     }
 }
 
@@ -111,7 +120,7 @@ fn refused_answer(number: u8) -> Answer {
 }
 
 /// All rows, the first records and their strings, of every table.
-fn all_answers(session: &mut Session) -> Vec<Answer> {
+fn all_answers(run: &mut Run) -> Vec<Answer> {
     let mut calls = Vec::new();
     for table in Table::ALL.map(|table| u32::from(table.number())) {
         calls.push(Call::Rows { table, room: 6000 });
@@ -120,7 +129,7 @@ fn all_answers(session: &mut Session) -> Vec<Answer> {
             calls.extend((0..3).map(|slot| Call::Text { table, k, slot }));
         }
     }
-    calls.iter().filter_map(|call| call.make(session)).collect()
+    calls.iter().filter_map(|call| call.make(run)).collect()
 }
 
 /// A run with the deliveries that bring these blocks, in another order.
@@ -144,28 +153,26 @@ fn two_runs_with_equal_received_blocks_end_alike() {
         let file = random_file(rng);
         let (image, map) = any_buffers(&file, rng);
         let mut one = Session::new(image, map);
+        one.open(file.len() as u64)
+            .expect("the buffers are long enough");
+        let mut one = Run::new(one);
         let mut other = one.clone();
         let mut received =
             Received::open(file.len() as u64).expect("an export's length is allowed");
-        one.open(file.len() as u64)
-            .expect("the buffers are long enough");
         for call in run_calls(&file, rng) {
             call.make(&mut one);
             if let Call::Deliver { block, piece } = &call {
                 received.deliver(*block, piece);
             }
         }
-        other
-            .open(file.len() as u64)
-            .expect("the buffers are long enough");
         for call in run_of_received(&received, file.len() / BLOCK_SIZE, rng) {
             call.make(&mut other);
         }
-        assert_eq!(one.image(), other.image());
-        assert_eq!(one.map(), other.map());
+        assert_eq!(one.session().image(), other.session().image());
+        assert_eq!(one.session().map(), other.session().map());
         assert_eq!(all_answers(&mut one), all_answers(&mut other));
         if let Some(whole_file) = received.whole_file() {
-            assert_eq!(one.image()[..file.len()], whole_file);
+            assert_eq!(one.session().image()[..file.len()], whole_file);
         }
     }
 }
@@ -175,6 +182,8 @@ fn two_runs_with_equal_received_blocks_end_alike() {
 struct Earlier {
     written: HashMap<u32, Vec<u32>>,
     found: HashMap<(u32, u64, Option<u64>), Answer>,
+    /// By list and line of the call.
+    from_list: HashMap<(Vec<u32>, String), Answer>,
     faults: HashMap<u32, Refusal>,
 }
 
@@ -214,6 +223,15 @@ impl Earlier {
         }
     }
 
+    /// What was read from a list is read from it again, refusals too.
+    fn check_from_list(&mut self, list: &[u32], call: &Call, answer: &Answer) {
+        let line = call.to_line().filter(|line| line.contains("_in "));
+        if let (Some(line), false) = (line, answer.to_string().starts_with("wait")) {
+            let first = self.from_list.entry((list.to_vec(), line));
+            assert_eq!(first.or_insert_with(|| answer.clone()), answer);
+        }
+    }
+
     fn check_found(&mut self, question: (u32, u64, Option<u64>), answer: &Answer) {
         match self.found.get(&question) {
             Some(earlier) => assert_eq!(answer, earlier),
@@ -235,14 +253,16 @@ fn later_answers_keep_to_earlier_ones() {
         session
             .open(file.len() as u64)
             .expect("the buffers are long enough");
+        let mut run = Run::new(session);
         let mut earlier = Earlier::default();
         for call in run_calls(&file, rng) {
-            if let Some(answer) = call.make(&mut session) {
+            if let Some(answer) = call.make(&mut run) {
                 earlier.check(&call, &answer);
+                earlier.check_from_list(run.list(), &call, &answer);
             }
             for table in Table::ALL.map(|table| u32::from(table.number())) {
                 let question = Call::Rows { table, room: 6000 };
-                if let Some(answer) = question.make(&mut session) {
+                if let Some(answer) = question.make(&mut run) {
                     earlier.check(&question, &answer);
                 }
             }

@@ -1,0 +1,112 @@
+//! Calls made on the reference.
+
+use super::{Answer, Call, Reply};
+use crate::model::{Refusal, Session};
+
+/// What each number of a list is before the call.
+pub(super) const LIST_FILL: u32 = 0xeeee_eeee;
+
+/// A session, and the list that its calls read from.
+///
+/// ```
+/// use sarvoltig_reference::model::Session;
+/// use sarvoltig_reference::schedule::{Call, Run};
+///
+/// let mut run = Run::new(Session::new(vec![], vec![]));
+/// Call::List { places: vec![1080] }.make(&mut run);
+/// Call::Lend { image: 512, words: 1 }.make(&mut run);
+/// assert_eq!(run.list(), [1080]);
+/// ```
+#[derive(Clone, Debug)]
+pub struct Run {
+    session: Session,
+    list: Vec<u32>,
+}
+
+impl Run {
+    /// A run with an empty list.
+    pub fn new(session: Session) -> Self {
+        Run {
+            session,
+            list: Vec::new(),
+        }
+    }
+
+    /// The session after the calls so far.
+    pub fn session(&self) -> &Session {
+        &self.session
+    }
+
+    /// The list that calls read from.
+    pub fn list(&self) -> &[u32] {
+        &self.list
+    }
+}
+
+impl Call {
+    /// Makes the call. `Lend`, `Word` and `List` have no answer.
+    ///
+    /// ```
+    /// use sarvoltig_reference::model::Session;
+    /// use sarvoltig_reference::schedule::{Call, Reply, Run};
+    ///
+    /// let mut run = Run::new(Session::new(vec![], vec![]));
+    /// assert_eq!(Call::Lend { image: 512, words: 1 }.make(&mut run), None);
+    /// let answer = Call::Open { len: 512 }.make(&mut run).unwrap();
+    /// assert_eq!(answer.reply, Ok(Reply::Open(1)));
+    /// ```
+    pub fn make(&self, run: &mut Run) -> Option<Answer> {
+        let mut list = Vec::new();
+        let reply = self.reply(run, &mut list)?;
+        Some(Answer { reply, list })
+    }
+
+    /// Makes the call; `written` becomes the list that it writes to, if it has one.
+    fn reply(&self, run: &mut Run, written: &mut Vec<u32>) -> Option<Result<Reply, Refusal>> {
+        let Run { session, list } = run;
+        Some(match *self {
+            Call::Lend { image, words } => {
+                session.replace_buffers(fresh_image(image), fresh_map(words));
+                return None;
+            }
+            Call::Word { i, value } => {
+                session.write_word(i, value);
+                return None;
+            }
+            Call::List { ref places } => {
+                list.clone_from(places);
+                return None;
+            }
+            Call::Open { len } => session.open(len).map(Reply::Open),
+            Call::Deliver { block, ref piece } => {
+                session.deliver(block, piece).map(Reply::Delivered)
+            }
+            Call::Rows { table, room } => {
+                written.resize(room, LIST_FILL);
+                session.rows(table, written).map(Reply::Rows)
+            }
+            Call::Record { table, k } => session
+                .record(table, k)
+                .map(|reply| Reply::Record(table, reply)),
+            Call::Text { table, k, slot } => session.text(table, k, slot).map(Reply::Text),
+            Call::RecordIn { table, i } => session
+                .record_in(table, list, i)
+                .map(|reply| Reply::Record(table, reply)),
+            Call::TextIn { table, i, slot } => {
+                session.text_in(table, list, i, slot).map(Reply::Text)
+            }
+        })
+    }
+}
+
+/// What a fresh image holds.
+fn fresh_image(len: usize) -> Vec<u8> {
+    (0..len).map(|i| (167 * (i % 256) + 13) as u8).collect()
+}
+
+/// What a fresh map holds: odd multiples of one number.
+fn fresh_map(words: usize) -> Vec<u64> {
+    (0..words as u64)
+        .map(|i| 0x0123_4567_89ab_cdef_u64.wrapping_mul(2 * i + 1))
+        .collect()
+}
