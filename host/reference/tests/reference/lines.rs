@@ -41,6 +41,15 @@ fn other_lines_are_no_calls() {
         "record 1 0\r",
         "string 1 0",
         "word 0",
+    ];
+    for line in lines {
+        assert_eq!(Call::parse_line(line), None, "{line}");
+    }
+}
+
+#[test]
+fn other_lines_about_a_list_are_no_calls() {
+    let lines = [
         "list",
         "list ",
         "list ,",
