@@ -9,8 +9,8 @@ use borrow.Author.Tests.{ltb-false}
 use Rattle.lists.specs.Alias.{Places}
 use Rattle.refusal.specs.Answer.{given, refused}
 use Rattle.chain.specs.Walk.{Progress, Walk, full, waiting}
-use Rattle.export.specs.Rows.{rowsCounted, rowsFound, rowsAnswer, listAfter, settleRows}
-use Rattle.depend.specs.Depend.{rowsWritten, SameRows}
+use Rattle.export.specs.Rows.{rowsCounted, rowsWritten, rowsFound, rowsAnswer, listAfter, settleRows}
+use Rattle.depend.specs.Depend.{SameRows}
 use Rattle.lists.proofs.Sets.{written-front}
 use Rattle.lists.proofs.Choice.{on, never}
 

@@ -6,11 +6,9 @@ use Prim.Native.Nat.{ℕ}
 use lib.ListN.{length, drop}
 use Rattle.lists.specs.Alias.{Bytes, Words, Places}
 use Rattle.number.specs.Agree.{Agree}
-use Rattle.refusal.specs.Answer.{given, refused}
 use Rattle.intake.specs.Memory.{memory}
 use Rattle.intake.specs.InUse.{SameInUse}
-use Rattle.chain.specs.Walk.{Walk}
-use Rattle.export.specs.Rows.{RowsOutcome, rowsCounted, askRows}
+use Rattle.export.specs.Rows.{RowsOutcome, rowsWritten, askRows}
 use Rattle.run.specs.Call.{Question, CallReply, answer}
 use Rattle.depend.specs.Bytes.{relevant}
 use Rattle.depend.specs.Unread.{heldByte, unreadFor}
@@ -22,11 +20,6 @@ answerOn len map q image = answer len (memory image map) q
 -- every image as long as this one that has the same bytes wherever the test holds gives the same answer and the same list
 abbrev pub DecidedBy : (test : ℕ → Bool) (len : ℕ) (map : Words) (q : Question) (image : Bytes) → Type 0
 DecidedBy test len map q image = (other : Bytes) → Agree test image other → answerOn len map q image ≡ answerOn len map q other
-
--- the number of rows written to the list
-abbrev pub rowsWritten : Walk ℕ → ℕ
-rowsWritten (given progress) = rowsCounted progress
-rowsWritten (refused f) = 0
 
 -- Rule 7.13: two questions with these lists answer alike; where the lists agree behind the rows written, so do they afterwards
 pub record SameRows (list other : Places) (a b : RowsOutcome) : Type 0 where

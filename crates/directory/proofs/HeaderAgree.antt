@@ -1,4 +1,4 @@
--- Two first blocks that agree on the header fields and the pointers give a table the same chain: rule 7.2.
+-- Two first blocks that agree on the header fields and the pointers give a table the same chain (rule 7.2), and both headers hold or none does.
 -- Rests on the agreement of numbers (crate `number`).
 use mathlib.Core.Path.{_≡_, refl, ap, _∙_}
 use mathlib.Core.Bool.{true, and-false}
@@ -62,10 +62,19 @@ module _ {s t : Bytes} (a : Agree (directoryByte s) s t) where
     unfolding kept
     kept-agree = rw (from-agree (num-tables s) 0 (omega arith))
 
+  zeros-agree : le32 s 0x00 ≡ le32 t 0x00
+  zeros-agree = field-agree 0x00 (omega arith)
+
+  tables-agree : num-tables s ≡ num-tables t
+  tables-agree = field-agree 0x08 (omega arith)
+
+  pub holds-agree : (len : ℕ) → headerHolds len s ≡ headerHolds len t
+  unfolding headerHolds tablesHold
+  holds-agree len =
+      rw (zeros-agree, size-agree, ← tables-agree) (on (allowedTables (num-tables s)) (λ e. rw (twice-agree e)) (λ e. simp (e, and-false)))
+
   pub chain-agree : (len : ℕ) (table : Table) → tableChain len s table ≡ tableChain len t table
   unfolding tableChain headerHolds tablesHold
   chain-agree len table =
-      let zeros-agree = field-agree 0x00 (omega arith) in
-      let tables-agree = field-agree 0x08 (omega arith) in
       rw (zeros-agree, size-agree, ← tables-agree)
       (on (allowedTables (num-tables s)) (λ e. rw (twice-agree e, kept-agree e)) (λ e. simp (e, and-false)))

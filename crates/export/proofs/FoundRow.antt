@@ -1,6 +1,6 @@
 -- The rows that the walk for a table finds (specs/Walk): each is a present row of a page that the walk reads, and passes the row check.
 --     FoundRow, rows-found     what is known of each
---     row-read-same            with more blocks held, what is read from it is the same
+--     row-read-same            with more blocks held, what is read from a row of a page that is held is the same
 --     row-text                 it has no malformed string (rule 5.26)
 -- Rests on proofs/EachFound and proofs/PageWalked.
 use mathlib.Core.Path.{_≡_, ap, _∙_}
@@ -100,19 +100,19 @@ pub row-text : {len : ℕ} {m : Memory} {table : Table} {place : ℕ} → FoundR
     → (slot : ℕ) → slot < slotCount table → faultIn (slotText table (rowPart (pageSize m) (m .image) place) slot) ≡ none
 row-text {m = m} {table} {place} r slot h = good-text table (rowPart (pageSize m) (m .image) place) slot (r .good) h
 
+-- a row on a page that is held
 module _ {len : ℕ} {a b : Memory} (soundA : Sound len a) (soundB : Sound len b)
-    (more : MoreBlocks len a b) where
-  pub size-same : {table : Table} {place : ℕ} → FoundRow len a table place → pageSize a ≡ pageSize b
-  size-same r = ap len-page (first-same more soundA soundB (r .page .first))
+    (more : MoreBlocks len a b) (place : ℕ) (p : PageWalked len a (place / pageSize a)) where
+  size-same : pageSize a ≡ pageSize b
+  size-same = ap len-page (first-same more soundA soundB (p .first))
 
-  pub row-same : {table : Table} {place : ℕ} → FoundRow len a table place → rowPart (pageSize a) (a .image) place ≡ rowPart (pageSize b) (b .image) place
+  row-same : rowPart (pageSize a) (a .image) place ≡ rowPart (pageSize b) (b .image) place
   unfolding rowPart
-  row-same {place = place} r =
-      ap (λ (page : Bytes). drop (place % pageSize a) (beforeIndex page)) (part-same more soundA soundB (r .page .inside) (r .page .held))
-      ∙ ap (λ (size : ℕ). rowPart size (b .image) place) (size-same r)
+  row-same =
+      ap (λ (page : Bytes). drop (place % pageSize a) (beforeIndex page)) (part-same more soundA soundB (p .inside) (p .held))
+      ∙ ap (λ (size : ℕ). rowPart size (b .image) place) size-same
 
   -- whatever is read from the row, by its bytes and the size of its page
-  pub row-read-same : {A : Type 0} (read : (size : ℕ) (row : Bytes) → A) {table : Table} {place : ℕ} → FoundRow len a table place
+  pub row-read-same : {A : Type 0} (read : (size : ℕ) (row : Bytes) → A)
       → read (pageSize a) (rowPart (pageSize a) (a .image) place) ≡ read (pageSize b) (rowPart (pageSize b) (b .image) place)
-  row-read-same read {place = place} r =
-      ap (read (pageSize a)) (row-same r) ∙ ap (λ (size : ℕ). read size (rowPart (pageSize b) (b .image) place)) (size-same r)
+  row-read-same read = ap (read (pageSize a)) row-same ∙ ap (λ (size : ℕ). read size (rowPart (pageSize b) (b .image) place)) size-same

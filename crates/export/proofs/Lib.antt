@@ -6,7 +6,7 @@
 --     WalkStart                           what is answered before the chain is walked
 --     TablePlaces                         the places on a table's chain are the rows found
 --     RowsAnswer, RowAnswer, RowPart      the answer of a question by what the walk counted
---     ListedStart                         what reading from a list answers before and after the file header
+--     ListedStart, ListedRow              reading from a list: before and after the file header, and the row that an entry names
 --     Questions                           the three questions: the same answers, and the faults of the file's own
 pub mod AskedTable
 pub mod SameBlocks
@@ -20,4 +20,5 @@ pub mod RowAnswer
 pub mod TablePlaces
 pub mod RowPart
 pub mod ListedStart
+pub mod ListedRow
 pub mod Questions

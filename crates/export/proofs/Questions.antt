@@ -84,7 +84,7 @@ module _ {len : ℕ} {a b : Memory} (soundA : Sound len a) (soundB : Sound len b
         (λ (place : ℕ). read place (pageSize a) (rowPart (pageSize a) (a .image) place) ≡ read place (pageSize b) (rowPart (pageSize b) (b .image) place))
         (tableWalk len a table)
     rows-read-same read =
-        found-of (FoundRow len a table) _ (tableWalk len a table) (λ place r. row-read-same soundA soundB more (read place) r) (rows-found len a table soundA)
+        found-of (FoundRow len a table) _ (tableWalk len a table) (λ place r. row-read-same soundA soundB more place (r .page) (read place)) (rows-found len a table soundA)
 
     pub records-found-same : EachFound (λ (place : ℕ). recordAt a table place ≡ recordAt b table place) (tableWalk len a table)
     records-found-same = rows-read-same (λ place size bytes. given (row.found (readRecord table bytes)))

@@ -57,7 +57,7 @@ no-places image (given c) = refl
 no-places image (refused f) = refl
 
 module _ (len : ℕ) (m : Memory) (table : Table) where
-  allowed-file : Sound len m → (c : Chain) → FileChain len (blockAt (m .image) 0) c → AllowedFile c (m .image)
+  pub allowed-file : Sound len m → (c : Chain) → FileChain len (blockAt (m .image) 0) c → AllowedFile c (m .image)
   allowed-file ok c f =
       let a = sound-accepted len m ok in
       let size = len-page (blockAt (m .image) 0) in

@@ -26,6 +26,11 @@ abbrev pub rowsCounted : Progress ℕ → ℕ
 rowsCounted (full rows pages) = rows
 rowsCounted (waiting page rows pages) = rows
 
+-- the number of rows written to the list
+abbrev pub rowsWritten : Walk ℕ → ℕ
+rowsWritten (given progress) = rowsCounted progress
+rowsWritten (refused f) = 0
+
 -- the places of the rows found
 abbrev pub rowsFound : Walk Places → Places
 rowsFound (given (full rows pages)) = rows

@@ -1,4 +1,4 @@
--- Demand 3 (specs/Demand), for every run: one term.
+-- Demand 3 (specs/Demand), for every run: one term; and what follows for reading from a list (specs/FromList).
 -- Rests on what holds at the end of a run (proofs/RunHolds, proofs/CallsAppend), on the questions over the blocks held (export: Questions),
 -- and on proofs/HeldBlocks and proofs/AnswersKept.
 use mathlib.Core.Path.{_≡_, ap, _∙_}
@@ -13,6 +13,7 @@ use Rattle.run.specs.Holds.{Holds}
 use Rattle.run.specs.Call.{Question, allRows, oneRecord, oneText, Call, deliver, ask, rows, row, text, answer, reply}
 use Rattle.run.specs.Run.{afterOpening, runMemory, runReceived}
 use Rattle.run.specs.Demand.{Demand, EveryRun}
+use Rattle.run.specs.FromList.{EveryRunKeepsLists}
 use Rattle.intake.proofs.RulesPassed.{Accepted}
 use Rattle.intake.proofs.OpenClears.{opens, opening-accepted}
 use Rattle.export.proofs.SameBlocks.{SameBlocks, MoreBlocks}
@@ -22,6 +23,7 @@ use Rattle.run.proofs.CallsAppend.{received-append, received-last, call
 use Rattle.run.proofs.FileMemory.{received-sound, whole-sound, order-whole}
 use Rattle.run.proofs.HeldBlocks.{holds-sized, same-received, same-whole, holds-more}
 use Rattle.run.proofs.AnswersKept.{keeps}
+use Rattle.run.proofs.ListKept.{lists-kept}
 
 -- each question, where the same blocks are held
 pub answer-same : {len : ℕ} {a b : Memory} → Sound len a → Sound len b
@@ -67,3 +69,9 @@ module _ (len : ℕ) (before : Memory) (passed : Accepted len (before .image) (b
 
 pub demand : EveryRun
 demand len before e = at-every-end len before (opening-accepted len (before .image) (before .map) e)
+
+-- Rule 8.15: the corollary for reading from a list
+pub list-keeps : EveryRunKeepsLists
+list-keeps len before e calls later =
+    let passed = opening-accepted len (before .image) (before .map) e in
+    lists-kept (still-sound len before passed calls calls) (still-sound len before passed calls (calls ++ later)) (more-later len before passed calls later)

@@ -6,8 +6,10 @@
 --     CallsAppend      a run that goes on keeps its received blocks
 --     FileMemory       the memories made of the received blocks, and of a whole file
 --     HeldBlocks       the run's memory and those memories hold the same blocks; more received, more held
---     AnswersKept             with more blocks held, written places, answers and faults stay: by export's laws of the walk
---     Demand           all of it, one term
+--     AnswersKept      with more blocks held, written places, answers and faults stay: by export's laws of the walk
+--     ListRead         reading from the list that all rows left answers as the questions do
+--     ListKept         with more blocks held, what was read from a list stays
+--     Demand           all of it, one term; and the corollary for lists
 pub mod ReceivedBlocks
 pub mod HoldsKept
 pub mod Determined
@@ -16,4 +18,6 @@ pub mod CallsAppend
 pub mod FileMemory
 pub mod HeldBlocks
 pub mod AnswersKept
+pub mod ListRead
+pub mod ListKept
 pub mod Demand

@@ -7,3 +7,4 @@ pub mod Written
 pub mod Refusal
 pub mod Later
 pub mod Demand
+pub mod FromList
