@@ -19,7 +19,7 @@ use Rattle.export.specs.Record.{recordIn, askRecord}
 use Rattle.export.specs.Text.{textIn, askText}
 use Rattle.run.specs.Call.{Question, allRows, oneRecord, oneText, rows, row, text}
 use Rattle.depend.specs.Bytes.{relevantIn, relevant}
-use Rattle.depend.specs.Depend.{DecidedBy, SameRows, EveryQuestion}
+use Rattle.depend.specs.Depend.{answerOn, DecidedBy, SameRows, EveryQuestion}
 use Rattle.lists.proofs.Choice.{on}
 use Rattle.number.proofs.NumberAgree.{agree-less}
 use Rattle.export.proofs.AskedTable.{asked-sound}
@@ -37,7 +37,7 @@ module _ (len : ℕ) (map : Words) (s t : Bytes) where
   abbrev n : Memory
   n = memory t map
 
-  asked-same : length s ≡ length t → (number : ℕ) → askedTable len m number ≡ askedTable len n number
+  pub asked-same : length s ≡ length t → (number : ℕ) → askedTable len m number ≡ askedTable len n number
   unfolding askedTable checkCall checkLengths
   asked-same long number = rw long
 
@@ -69,7 +69,7 @@ module _ (len : ℕ) (map : Words) (s t : Bytes) where
       by (refused f) e b = refl
 
 module _ (len : ℕ) (map : Words) where
-  those : (q : Question) (image : Bytes) → DecidedBy (relevant len (memory image map) q) len map q image
+  those : (q : Question) (image : Bytes) → DecidedBy (relevant len (memory image map) q) (answerOn len map q) image
   unfolding relevant
   those (allRows number list) image other a = ap rows (rows-agree len map image other number list a)
   those (oneRecord number k) image other a = ap row (record-agree len map image other number k a)

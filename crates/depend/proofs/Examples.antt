@@ -14,7 +14,9 @@ use Rattle.row.specs.Bytes.{slotByte, subtypeByte, rowByte}
 use Rattle.page.specs.Header.{headerAgrees, rowless, entries}
 use Rattle.page.specs.Index.{indexSize, flagsAt, offsetAt, present, rowStart, presentFrom}
 use Rattle.page.specs.Read.{indexFits, beforeIndex, rowStarts, checkRows, readPage}
-use Rattle.page.specs.Bytes.{headerByte, rowByteAt, indexByte, entryByte, entriesByte, pageByte}
+use Rattle.page.specs.Row.{pageRow}
+use Rattle.page.specs.OneRow.{isRow}
+use Rattle.page.specs.Bytes.{headerByte, rowByteAt, indexByte, entryByte, entriesByte, pageByte, oneRowByte}
 use Rattle.intake.specs.Length.{allowedLength}
 use Rattle.bitmap.specs.Spare.{spareBit}
 use Rattle.bitmap.specs.Bit.{bit}
@@ -27,10 +29,12 @@ use Rattle.directory.specs.Bytes.{directoryByte}
 use Rattle.chain.specs.Held.{blockMissing, pageHeld}
 use Rattle.chain.specs.File.{pagePart, pageNext}
 use Rattle.chain.specs.Reads.{comesTo, goesOn, reads, readsFrom}
+use Rattle.listed.specs.Rank.{runBefore, rank}
 use Rattle.export.specs.Asked.{askedTable}
 use Rattle.export.specs.Reads.{tableReads}
 use Rattle.depend.specs.Bytes.{walkedByte, firstBlockByte, tableByte, relevant}
 use Rattle.depend.specs.Unread.{inPresentRow, inAbsentRow, absentRow, unreadByte, unreadFor}
+use Rattle.depend.specs.ListBytes.{entryReads, entryPageByte, listByte}
 use Rattle.depend.specs.Examples.{examples, ExamplesHold}
 
 pub examples-hold : ExamplesHold examples
@@ -41,4 +45,5 @@ unfolding le16 le32 anyFrom isMember within linkable headSize wholeSize textBehi
     pointersFrom kept pointerAmong chainIn tableChain directoryByte blockMissing pageHeld pagePart pageNext
     comesTo goesOn reads readsFrom askedTable tableReads walkedByte firstBlockByte tableByte relevant
     inPresentRow inAbsentRow absentRow unreadByte unreadFor
+    pageRow isRow oneRowByte runBefore rank entryReads entryPageByte listByte
 examples-hold = refl

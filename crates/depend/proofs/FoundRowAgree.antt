@@ -25,7 +25,7 @@ use Rattle.page.proofs.PageAgree.{RowAgree, parts-same}
 use Rattle.export.proofs.EachFound.{found-of}
 use Rattle.export.proofs.FoundRow.{FoundRow, rows-found}
 use Rattle.export.proofs.Questions.{settle-same}
-use Rattle.depend.proofs.WalkAgree.{size-same, page-agree, walk-agree}
+use Rattle.depend.proofs.WalkAgree.{table-size, page-agree, walk-agree}
 
 module _ (len : ℕ) (map : Words) (s t : Bytes) (table : Table) (a : Agree (tableByte len (memory s map) table) s t) where
   abbrev m : Memory
@@ -46,12 +46,12 @@ module _ (len : ℕ) (map : Words) (s t : Bytes) (table : Table) (a : Agree (tab
   record-same : {place : ℕ} → FoundRow len m table place → recordAt m table place ≡ recordAt n table place
   record-same {place} r =
       ap (λ x. given (found x)) (record-agree table (r .good) (part-agree r))
-      ∙ ap (λ (size : ℕ). given (found (readRecord table (rowPart size t place)))) (size-same len map s t table a (r .page .first))
+      ∙ ap (λ (size : ℕ). given (found (readRecord table (rowPart size t place)))) (table-size len map s t table a (r .page .first))
 
   text-same : (slot : ℕ) {place : ℕ} → FoundRow len m table place → textAt m table slot place ≡ textAt n table slot place
   text-same slot {place} r =
       ap (textFound (place / pageSize m) place) (slot-agree table (r .good) (part-agree r) slot)
-      ∙ ap (λ (size : ℕ). textOn size t table slot place) (size-same len map s t table a (r .page .first))
+      ∙ ap (λ (size : ℕ). textOn size t table slot place) (table-size len map s t table a (r .page .first))
 
   -- row k is answered alike where each row found is
   module _ (sound : Sound len (memory s map)) (k : ℕ) where

@@ -20,16 +20,16 @@ use Rattle.export.proofs.SameBlocks.{SameBlocks}
 use Rattle.run.proofs.Demand.{answer-same}
 
 -- what refusals 1 to 4 answer
-abbrev checked : ℕ → Memory → Answer Unit
+abbrev pub checked : ℕ → Memory → Answer Unit
 checked len m = checkCall len m (given tt)
 
 -- a table that is asked for is refused by the same fault
-asked-refused : (len : ℕ) (m : Memory) (number : ℕ) {f : Fault} → checked len m ≡ refused f → askedTable len m number ≡ refused f
+pub asked-refused : (len : ℕ) (m : Memory) (number : ℕ) {f : Fault} → checked len m ≡ refused f → askedTable len m number ≡ refused f
 unfolding askedTable
 asked-refused len m number e = call-refused len m e (tableOf number)
 
 module _ {len : ℕ} {m n : Memory} (a : SameInUse len m n) where
-  same-blocks : SameBlocks len m n
+  pub same-blocks : SameBlocks len m n
   same-blocks = record { bits = λ b h. bit-agree a b (omega arith); bytes = λ b h e. block-agree a b h }
 
   -- refused by 1 to 4, whatever is asked

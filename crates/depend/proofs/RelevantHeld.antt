@@ -48,7 +48,7 @@ module _ (len : ℕ) (m : Memory) where
   held-true i h b = simp (lt-ltb i len h, b)
 
   -- a byte of a page walked
-  page-held : (i : ℕ) → PageWalked len m (pageAt m i) → heldByte len (m .map) i ≡ true
+  pub page-held : (i : ℕ) → PageWalked len m (pageAt m i) → heldByte len (m .map) i ≡ true
   page-held i w =
       let size = pageSize m in
       let whole = good-header len (blockAt (m .image) 0) (w .header) in
@@ -59,7 +59,7 @@ module _ (len : ℕ) (m : Memory) where
       (rw block (held-bit size (m .map) (i / size) (i % size / blockSize) (w .held) (omega (arith, whole .whole))))
 
   module _ (sound : Sound len m) where
-    header-held : (i : ℕ) → firstBlockByte m i ≡ true → heldByte len (m .map) i ≡ true
+    pub header-held : (i : ℕ) → firstBlockByte m i ≡ true → heldByte len (m .map) i ≡ true
     unfolding firstBlockByte
     header-held i e =
         let both = both-true (bit (m .map) 0) (directoryByte (blockAt (m .image) 0) i) e in

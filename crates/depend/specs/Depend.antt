@@ -18,8 +18,8 @@ abbrev pub answerOn : (len : ℕ) (map : Words) (q : Question) (image : Bytes) �
 answerOn len map q image = answer len (memory image map) q
 
 -- every image as long as this one that has the same bytes wherever the test holds gives the same answer and the same list
-abbrev pub DecidedBy : (test : ℕ → Bool) (len : ℕ) (map : Words) (q : Question) (image : Bytes) → Type 0
-DecidedBy test len map q image = (other : Bytes) → Agree test image other → answerOn len map q image ≡ answerOn len map q other
+abbrev pub DecidedBy : {A : Type 0} (test : ℕ → Bool) (answer : Bytes → A) (image : Bytes) → Type 0
+DecidedBy test answer image = (other : Bytes) → Agree test image other → answer image ≡ answer other
 
 -- Rule 7.13: two questions with these lists answer alike; where the lists agree behind the rows written, so do they afterwards
 pub record SameRows (list other : Places) (a b : RowsOutcome) : Type 0 where
@@ -28,11 +28,11 @@ pub record SameRows (list other : Places) (a b : RowsOutcome) : Type 0 where
 
 pub record Dependence (len : ℕ) (map : Words) (q : Question) (image : Bytes) : Type 0 where
   -- Rules 7.1 to 7.7 and 7.12
-  pub those : DecidedBy (relevant len (memory image map) q) len map q image
+  pub those : DecidedBy (relevant len (memory image map) q) (answerOn len map q) image
   -- Rule 7.9
-  pub held : DecidedBy (heldByte len map) len map q image
+  pub held : DecidedBy (heldByte len map) (answerOn len map q) image
   -- Rule 7.10
-  pub others : DecidedBy (λ (i : ℕ). not (unreadFor len (memory image map) q i)) len map q image
+  pub others : DecidedBy (λ (i : ℕ). not (unreadFor len (memory image map) q i)) (answerOn len map q) image
   -- Rule 7.11
   pub inUse : (other : Bytes) (words : Words) → SameInUse len (memory image map) (memory other words) → answerOn len map q image ≡ answerOn len words q other
   -- Rule 7.13

@@ -1,15 +1,16 @@
--- Rules 7.2 to 7.8, 7.10 and 7.12 by example: a file of four pages, of which page 3 is off the chain, and two that differ a little.
+-- Rules 7.2 to 7.8, 7.10, 7.12 and 7.14 by example: a file of four pages, of which page 3 is off the chain, and two that differ a little.
 -- An example holds when the definitions say of a byte what is said here.
 use mathlib.Core.Path.{_≡_}
 use mathlib.Core.Bool.{Bool, true, false}
 use mathlib.Core.List.{List, [], _∷_, map}
 use Prim.Native.Nat.{ℕ, _+_}
 use lib.ListN.{set, replicate}
-use Rattle.lists.specs.Alias.{Bytes}
+use Rattle.lists.specs.Alias.{Bytes, Places}
 use Rattle.intake.specs.Memory.{memory}
 use Rattle.run.specs.Call.{Question, allRows, oneText}
 use Rattle.depend.specs.Bytes.{relevant}
 use Rattle.depend.specs.Unread.{unreadFor}
+use Rattle.depend.specs.ListBytes.{recordFrom, readRelevant}
 
 -- an image with these bytes from a place on
 abbrev pub put : (image : Bytes) (at : ℕ) (bytes : Bytes) → Bytes
@@ -76,6 +77,13 @@ unread i = record { found = unreadFor 2048 (memory genres (all ∷ [])) (allRows
 abbrev pub read : ℕ → Example
 read i = record { found = unreadFor 2048 (memory genres (all ∷ [])) (allRows 1 []) i; said = false }
 
+-- for the record of entry 0 of this list of table 1 byte i is relevant, or it is not; every block is held
+abbrev pub yesAt : (list : Places) (i : ℕ) → Example
+yesAt list i = record { found = readRelevant 2048 (memory genres (all ∷ [])) (recordFrom 1 list 0) i; said = true }
+
+abbrev pub noAt : (list : Places) (i : ℕ) → Example
+noAt list i = record { found = readRelevant 2048 (memory genres (all ∷ [])) (recordFrom 1 list 0) i; said = false }
+
 abbrev pub examples : List Example
 examples =
     -- block 0: len_page and what stands behind num_tables; the pointer with its empty_candidate, and where a second one would be
@@ -100,6 +108,11 @@ examples =
     noIn genres (allRows 9 []) 0x04 ∷ yesIn genres (oneText 1 0 0) 0x04 ∷ noIn genres (oneText 1 0 1) 0x04 ∷
     -- the absent row's first byte and a byte of page 3 are unread, the present row's and the pointer's are not
     unread 1064 ∷ unread 1540 ∷ read 1080 ∷ read 0x1c ∷
+    -- read from a list: block 0, of page 2 its header and row index and the row that is named, and nothing of page 1
+    yesAt (1080 ∷ []) 0x04 ∷ yesAt (1080 ∷ []) 1028 ∷ yesAt (1080 ∷ []) 1528 ∷ yesAt (1080 ∷ []) 1532 ∷ yesAt (1080 ∷ []) 1084 ∷
+    noAt (1080 ∷ []) 1079 ∷ noAt (1080 ∷ []) 1534 ∷ noAt (1080 ∷ []) 516 ∷
+    -- the place of the absent row: no byte of any row; a place on page 0, and no entry: block 0 alone
+    yesAt (1064 ∷ []) 1532 ∷ noAt (1064 ∷ []) 1064 ∷ noAt (1064 ∷ []) 1080 ∷ noAt (40 ∷ []) 516 ∷ yesAt [] 0x1c ∷ noAt [] 1028 ∷
     []
 
 abbrev pub ExamplesHold : List Example → Type 0

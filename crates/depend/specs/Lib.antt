@@ -1,4 +1,6 @@
 pub mod Bytes
 pub mod Unread
 pub mod Depend
+pub mod ListBytes
+pub mod DependList
 pub mod Examples

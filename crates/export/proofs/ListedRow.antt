@@ -1,5 +1,6 @@
 -- The row that an entry of a list names (specs/FromList).
 --     ListedRow, listed-found, found-listed    what is known of a row that is found so, and the other way round
+--     then-listed                              answers that agree wherever it is found
 --     rows-ranked                              each row that the walk for a table finds is the row of its rank on its page
 --     row-listed                               so a list that begins with the rows found names them
 -- Rests on the ranks of the rows of a chain (listed: RowsRanked) and on the rows found (proofs/FoundRow).
@@ -23,7 +24,7 @@ use Rattle.intake.specs.Memory.{Memory, blockAt}
 use Rattle.directory.specs.Header.{headerHolds}
 use Rattle.directory.proofs.GoodHeader.{good-header}
 use Rattle.directory.proofs.ChainAnswer.{chain-given}
-use Rattle.chain.specs.Found.{Found, found}
+use Rattle.chain.specs.Found.{Found, found, waiting, thenFound}
 use Rattle.chain.specs.Held.{pageHeld}
 use Rattle.chain.specs.File.{pagePart}
 use Rattle.chain.proofs.Linkable.{inside-both, both-inside}
@@ -94,6 +95,16 @@ module _ (len : ℕ) (m : Memory) (table : Table) (list : Places) (i : ℕ) wher
   found-listed {place} r =
       let linked = both-inside (len / size) (place / size) (r .page .later) (r .page .inside .inside) in
       rw (r .page .first, r .page .header, lt-leb (length list) i (r .entry), r .named, linked, r .page .held, r .read)
+
+  -- two answers about the row that agree wherever it is found
+  pub then-listed : {A : Type 0} (f g : ℕ → Answer (Found A)) → ((place : ℕ) → ListedRow len m table list i place → f place ≡ g place)
+      → thenFound (tableListed len m list i table) f ≡ thenFound (tableListed len m list i table) g
+  then-listed {A} f g same = by (tableListed len m list i table) refl
+    where
+      by : (x : Answer (Found ℕ)) → tableListed len m list i table ≡ x → thenFound x f ≡ thenFound x g
+      by (given (found place)) q = same place (listed-found place q)
+      by (given (waiting page rows pages)) q = refl
+      by (refused r) q = refl
 
 module _ (len : ℕ) (m : Memory) (table : Table) (sound : Sound len m) where
   pub rows-ranked : RowsThere (pageSize m) (m .image) (tableWalk len m table)

@@ -38,7 +38,7 @@ use Rattle.export.specs.FromList.{tableListed, recordListed, askRecordIn, textL
 use Rattle.export.proofs.AskedTable.{sound-asked}
 use Rattle.export.proofs.SameBlocks.{SameBlocks, MoreBlocks, InFile, some-block, first-same, held-same, held-more, part-same}
 use Rattle.export.proofs.FoundRow.{row-read-same}
-use Rattle.export.proofs.ListedRow.{ListedRow, listed-found}
+use Rattle.export.proofs.ListedRow.{ListedRow, then-listed}
 use Rattle.run.specs.FromList.{Settled, KeepsLists}
 use Rattle.run.proofs.ListRead.{list-reads, record-settled, text-settled}
 
@@ -92,17 +92,6 @@ module _ {len : ℕ} {a b : Memory} (soundA : Sound len a) (soundB : Sound len b
           sym (held-same same (in-file h k)) ∙ p,
         ) refl)
 
-    -- an answer about the row, where it is the same row
-    pub then-same : {B : Type 0} (f g : ℕ → Answer (Found B)) → ((place : ℕ) → ListedRow len a table list i place → f place ≡ g place)
-        → tableListed len b list i table ≡ tableListed len a list i table
-        → thenFound (tableListed len b list i table) g ≡ thenFound (tableListed len a list i table) f
-    then-same {B} f g same e = rw e (by (tableListed len a list i table) refl)
-      where
-        by : (x : Answer (Found ℕ)) → tableListed len a list i table ≡ x → thenFound x g ≡ thenFound x f
-        by (given (found place)) q = sym (same place (listed-found len a table list i place q))
-        by (given (waiting page rows pages)) q = refl
-        by (refused r) q = refl
-
     then-settled : {B : Type 0} (f : ℕ → Answer (Found B)) (x : Answer (Found ℕ)) → Settled (thenFound x f) → Settled x
     then-settled f (given (found place)) s = tt
     then-settled f (given (waiting page rows pages)) s = s
@@ -117,12 +106,13 @@ module _ {len : ℕ} {a b : Memory} (soundA : Sound len a) (soundB : Sound len b
         row-read-same soundA soundB more place (r .page) (λ size bytes. textFound (place / size) place (slotText table bytes slot))
 
     record-by : tableListed len b list i table ≡ tableListed len a list i table → recordListed len b list i table ≡ recordListed len a list i table
-    record-by = then-same (recordAt a table) (recordAt b table) records-same
+    record-by e = rw e (sym (then-listed len a table list i (recordAt a table) (recordAt b table) records-same))
 
     text-by : (slot : ℕ) → tableListed len b list i table ≡ tableListed len a list i table
         → textListed len b list i slot table ≡ textListed len a list i slot table
     text-by slot e =
-        on (ltb slot (slotCount table)) (λ h. rw h (then-same (textAt a table slot) (textAt b table slot) (texts-same slot) e)) (λ h. rw h refl)
+        on (ltb slot (slotCount table))
+        (λ h. rw (h, e) (sym (then-listed len a table list i (textAt a table slot) (textAt b table slot) (texts-same slot)))) (λ h. rw h refl)
 
     pub record-kept : Settled (recordListed len a list i table) → recordListed len b list i table ≡ recordListed len a list i table
     record-kept s = record-by (listed-kept (then-settled (recordAt a table) (tableListed len a list i table) s))

@@ -1,0 +1,152 @@
+-- The theorem about reading from a list (specs/DependList): rules 7.9, 7.11, 7.12 and 7.14.
+--     those, held, inUse     its fields
+-- Rests on proofs/ListAgree, on what stands in held blocks (proofs/RelevantHeld) and on proofs/InUseOnly.
+use mathlib.Core.Path.{_≡_, refl, sym, ap, _∙_}
+use mathlib.Core.Bool.{true, _&&_, false≢true}
+use Prim.Native.Nat.{ℕ, _/_, _%_}
+use lib.ListN.{length, getD}
+use lib.Dec.{ltb, eqb}
+use borrow.Author.Tests.{eqb-true}
+use Rattle.lists.specs.Alias.{Bytes, Words, Places}
+use Rattle.lists.proofs.Choice.{on, both-true}
+use Rattle.format.specs.Place.{linkable}
+use Rattle.number.specs.Agree.{Agree}
+use Rattle.number.proofs.NumberAgree.{agree-less}
+use Rattle.refusal.specs.declared.Fault.{Fault}
+use Rattle.refusal.specs.Answer.{Answer, given, refused, andThen}
+use Rattle.table.specs.declared.Table.{Table}
+use Rattle.table.specs.Table.{slotCount}
+use Rattle.page.specs.Bytes.{oneRowByte}
+use Rattle.bitmap.specs.Bit.{bit}
+use Rattle.intake.specs.Check.{checkLengths, checkCall}
+use Rattle.intake.specs.Memory.{Memory, memory, blockAt}
+use Rattle.intake.specs.InUse.{SameInUse}
+use Rattle.intake.proofs.PastInUse.{call-agree}
+use Rattle.directory.specs.Header.{headerHolds}
+use Rattle.directory.proofs.GoodHeader.{good-header}
+use Rattle.chain.specs.Held.{pageHeld}
+use Rattle.chain.proofs.Linkable.{inside-both}
+use Rattle.listed.specs.Rank.{pageOf, rank}
+use Rattle.export.specs.Asked.{askedTable, withSlot}
+use Rattle.export.specs.Walk.{pageSize}
+use Rattle.export.specs.FromList.{recordListed, askRecordIn, textListed, askTextIn}
+use Rattle.export.proofs.AskedTable.{asked-sound}
+use Rattle.export.proofs.SameBlocks.{same-more}
+use Rattle.export.proofs.PageWalked.{PageWalked}
+use Rattle.run.specs.Call.{row, text}
+use Rattle.run.proofs.ListKept.{record-in-same, text-in-same}
+use Rattle.depend.specs.Bytes.{pageAt, pageWith, firstBlockByte}
+use Rattle.depend.specs.Unread.{heldByte}
+use Rattle.depend.specs.Depend.{DecidedBy}
+use Rattle.depend.specs.ListBytes.{Reading, recordFrom, textFrom, readAnswer, entryReads, entryPageByte, listByte, listByteIn, readRelevant}
+use Rattle.depend.specs.DependList.{readOn, EveryReading}
+use Rattle.depend.proofs.Depend.{asked-same}
+use Rattle.depend.proofs.ListAgree.{record-agrees, text-agrees}
+use Rattle.depend.proofs.RelevantHeld.{page-held, header-held}
+use Rattle.depend.proofs.InUseOnly.{checked, asked-refused, same-blocks}
+
+module _ (len : ℕ) (map : Words) (s t : Bytes) where
+  abbrev m : Memory
+  m = memory s map
+
+  abbrev n : Memory
+  n = memory t map
+
+  record-agree : (number : ℕ) (list : Places) (entry : ℕ) → Agree (listByteIn len m list entry (askedTable len m number)) s t
+      → askRecordIn len m number list entry ≡ askRecordIn len n number list entry
+  unfolding askRecordIn
+  record-agree number list entry a = rw (← asked-same len map s t (a .long) number) (by (askedTable len m number) a)
+    where
+      by : (x : Answer Table) → Agree (listByteIn len m list entry x) s t → andThen x (recordListed len m list entry) ≡ andThen x (recordListed len n list entry)
+      by (given table) b = record-agrees len map s t table list entry b
+      by (refused f) b = refl
+
+  text-agree : (number : ℕ) (list : Places) (entry slot : ℕ)
+      → Agree (listByteIn len m list entry (andThen (askedTable len m number) (λ table. withSlot slot table (given table)))) s t
+      → askTextIn len m number list entry slot ≡ askTextIn len n number list entry slot
+  unfolding askTextIn
+  text-agree number list entry slot a = rw (← asked-same len map s t (a .long) number) (by (askedTable len m number) a)
+    where
+      by : (x : Answer Table) → Agree (listByteIn len m list entry (andThen x (λ table. withSlot slot table (given table)))) s t
+          → andThen x (textListed len m list entry slot) ≡ andThen x (textListed len n list entry slot)
+      by (given table) b =
+          on (ltb slot (slotCount table)) (λ h. text-agrees len map s t table list entry (rw h at b) slot) (λ h. rw h refl)
+      by (refused f) b = refl
+
+-- a relevant byte stands in a block that is held
+module _ (len : ℕ) (m : Memory) (list : Places) (entry i : ℕ) where
+  abbrev number : ℕ
+  number = pageOf (pageSize m) list entry
+
+  entry-walked : entryReads len m list entry ≡ true → PageWalked len m number
+  unfolding entryReads
+  entry-walked e =
+      let size = pageSize m in
+      let file = both-true (bit (m .map) 0 && headerHolds len (blockAt (m .image) 0)) _ e in
+      let first = both-true (bit (m .map) 0) (headerHolds len (blockAt (m .image) 0)) (file .0) in
+      let page = both-true (ltb entry (length list)) _ (file .1) in
+      let link = both-true (linkable (len / size) number) (pageHeld size (m .map) number) (page .1) in
+      let inside = inside-both (len / size) number (link .0) in
+      record {
+        first = first .0;
+        header = first .1;
+        later = inside .0;
+        inside = record { whole = good-header len (blockAt (m .image) 0) (first .1) .whole; inside = inside .1 };
+        held = link .1;
+      }
+
+  entry-held : (table : Table) → entryPageByte len m table list entry i ≡ true → heldByte len (m .map) i ≡ true
+  unfolding entryPageByte
+  entry-held table e =
+      let size = pageSize m in
+      let parts = both-true (entryReads len m list entry) _ e in
+      let page = both-true (eqb (pageAt m i) number) (oneRowByte (pageAt m i) table (pageWith m i) (getD list entry 0 % size) (rank size list entry) (i % size)) (parts .1) in
+      page-held len m i (rw (eqb-true (pageAt m i) number (page .0)) (entry-walked (parts .0)))
+
+  list-held : (asked : ℕ) (x : Answer Table) → x ≡ askedTable len m asked → listByteIn len m list entry x i ≡ true → heldByte len (m .map) i ≡ true
+  unfolding listByte
+  list-held asked (given table) q e =
+      on (firstBlockByte m i) (λ h. header-held len m (asked-sound len m asked q) i h) (λ h. entry-held table (rw h at e))
+  list-held asked (refused f) q e = absurd (false≢true e)
+
+  slot-held : (asked slot : ℕ) (x : Answer Table) → x ≡ askedTable len m asked
+      → listByteIn len m list entry (andThen x (λ table. withSlot slot table (given table))) i ≡ true → heldByte len (m .map) i ≡ true
+  slot-held asked slot (given table) q e =
+      on (ltb slot (slotCount table)) (λ h. list-held asked (given table) q (rw h at e)) (λ h. absurd (false≢true (rw h at e)))
+  slot-held asked slot (refused f) q e = absurd (false≢true e)
+
+read-held : (len : ℕ) (m : Memory) (r : Reading) (i : ℕ) → readRelevant len m r i ≡ true → heldByte len (m .map) i ≡ true
+read-held len m (recordFrom asked list entry) i e = list-held len m list entry i asked (askedTable len m asked) refl e
+read-held len m (textFrom asked list entry slot) i e = slot-held len m list entry i asked slot (askedTable len m asked) refl e
+
+those : (len : ℕ) (map : Words) (r : Reading) (image : Bytes) → DecidedBy (readRelevant len (memory image map) r) (readOn len map r) image
+those len map (recordFrom asked list entry) image other a = ap row (record-agree len map image other asked list entry a)
+those len map (textFrom asked list entry slot) image other a = ap text (text-agree len map image other asked list entry slot a)
+
+-- memories that agree up to L and in the words in use
+module _ {len : ℕ} {m n : Memory} (a : SameInUse len m n) where
+  both-refused : {f : Fault} → checked len m ≡ refused f → checked len n ≡ refused f → (r : Reading) → readAnswer len m r ≡ readAnswer len n r
+  unfolding askRecordIn askTextIn
+  both-refused e g (recordFrom asked list entry) = rw (asked-refused len m asked e, asked-refused len n asked g) refl
+  both-refused e g (textFrom asked list entry slot) = rw (asked-refused len m asked e, asked-refused len n asked g) refl
+
+  both-sound : checked len m ≡ given tt → checked len n ≡ given tt → (r : Reading) → readAnswer len m r ≡ readAnswer len n r
+  both-sound e g (recordFrom asked list entry) =
+      ap row (sym (record-in-same e g (same-more (same-blocks a)) (same-blocks a) asked list entry))
+  both-sound e g (textFrom asked list entry slot) =
+      ap text (sym (text-in-same e g (same-more (same-blocks a)) (same-blocks a) asked list entry slot))
+
+  in-use : (r : Reading) → readAnswer len m r ≡ readAnswer len n r
+  in-use r = by (checked len m) refl
+    where
+      by : (c : Answer Unit) → checked len m ≡ c → readAnswer len m r ≡ readAnswer len n r
+      by (given u) e = both-sound e (sym (call-agree a refl) ∙ e) r
+      by (refused f) e = both-refused e (sym (call-agree a refl) ∙ e) r
+
+pub reading-depends : EveryReading
+reading-depends len map r image =
+    record {
+      those = those len map r image;
+      held = λ other a. those len map r image other (agree-less (read-held len (memory image map) r) a);
+      inUse = λ other words a. in-use a r;
+    }

@@ -1,0 +1,151 @@
+-- Rule 7.14: two images that agree on the relevant bytes of an entry of a list give the same row, record and strings for it.
+--     listed-agree               the row that the entry names
+--     record-agrees, text-agrees     what is read from it
+-- Rests on the agreement laws of crates `directory`, `page` and `row`.
+use mathlib.Core.Path.{_≡_, refl, sym, ap, _∙_}
+use mathlib.Core.Bool.{true, false, _&&_}
+use Prim.Native.Nat.{ℕ, _+_, _*_, _/_, _%_, _<_}
+use lib.ListN.{length, getD}
+use lib.Dec.{leb, ltb, eqb}
+use borrow.Author.Tests.{eq-eqb, lt-ltb, leb-false}
+use Rattle.lists.specs.Alias.{Bytes, Words, Places}
+use Rattle.lists.proofs.Choice.{on, or-left, or-right}
+use Rattle.format.specs.Place.{linkable}
+use Rattle.number.specs.Agree.{Agree}
+use Rattle.number.proofs.NumberAgree.{agree-less}
+use Rattle.refusal.specs.Answer.{given}
+use Rattle.table.specs.declared.Table.{Table}
+use Rattle.table.specs.Table.{slotCount}
+use Rattle.row.specs.Record.{readRecord}
+use Rattle.row.specs.Check.{checkRow}
+use Rattle.row.specs.Bytes.{rowByte}
+use Rattle.row.proofs.RowAgree.{record-agree, slot-agree}
+use Rattle.page.specs.Bytes.{oneRowByte}
+use Rattle.page.proofs.PageAgree.{one-part, row-read-agree}
+use Rattle.page.proofs.OneRowAnswer.{ReadRow, row-read}
+use Rattle.bitmap.specs.Bit.{bit}
+use Rattle.intake.specs.Memory.{Memory, memory, blockAt}
+use Rattle.directory.specs.Header.{headerHolds}
+use Rattle.directory.proofs.HeaderAgree.{holds-agree}
+use Rattle.chain.specs.Found.{found}
+use Rattle.chain.specs.Held.{pageHeld}
+use Rattle.chain.specs.File.{pagePart}
+use Rattle.chain.proofs.Linkable.{both-inside}
+use Rattle.chain.proofs.PagePart.{page-of, start-of}
+use Rattle.listed.specs.Rank.{pageOf, rank}
+use Rattle.listed.specs.Listed.{listedPlace}
+use Rattle.export.specs.Walk.{pageSize}
+use Rattle.export.specs.Row.{rowPart}
+use Rattle.export.specs.Record.{recordAt}
+use Rattle.export.specs.Text.{textFound, textOn, textAt}
+use Rattle.export.specs.FromList.{tableListed, recordListed, textListed}
+use Rattle.export.proofs.ListedRow.{ListedRow, then-listed}
+use Rattle.depend.specs.Bytes.{firstBlockByte}
+use Rattle.depend.specs.ListBytes.{entryReads, entryPageByte, listByte}
+use Rattle.depend.proofs.PartAgree.{part-agree, block-agree, size-same}
+
+module _ (len : ℕ) (map : Words) (s t : Bytes) (table : Table) (list : Places) (entry : ℕ)
+    (a : Agree (listByte len (memory s map) table list entry) s t) where
+  abbrev m : Memory
+  m = memory s map
+
+  abbrev n : Memory
+  n = memory t map
+
+  abbrev size : ℕ
+  size = pageSize m
+
+  abbrev number : ℕ
+  number = pageOf size list entry
+
+  abbrev start : ℕ
+  start = getD list entry 0 % size
+
+  first-bytes : Agree (firstBlockByte m) s t
+  unfolding listByte
+  first-bytes = agree-less (λ i e. or-left _ e) a
+
+  reads : bit map 0 ≡ true → headerHolds len (blockAt s 0) ≡ true → entry < length list → linkable (len / size) number ≡ true
+      → pageHeld size map number ≡ true → entryReads len m list entry ≡ true
+  unfolding entryReads
+  reads e h l k p = rw (e, h, lt-ltb entry (length list) l, k, p)
+
+  page-byte : entryReads len m list entry ≡ true → (i : ℕ) → i < size
+      → oneRowByte number table (pagePart size s number) start (rank size list entry) i ≡ true → listByte len m table list entry (number * size + i) ≡ true
+  unfolding listByte entryPageByte
+  page-byte r i h e =
+      or-right (firstBlockByte m (number * size + i)) (simp (page-of size number i h, start-of size number i h, r, eq-eqb number number refl, e))
+
+  page-agree : entryReads len m list entry ≡ true
+      → Agree (oneRowByte number table (pagePart size s number) start (rank size list entry)) (pagePart size s number) (pagePart size t number)
+  page-agree r = part-agree a size number (oneRowByte number table (pagePart size s number) start (rank size list entry)) (page-byte r)
+
+  listed-agree : tableListed len m list entry table ≡ tableListed len n list entry table
+  unfolding tableListed listedPlace
+  listed-agree =
+      on (bit map 0)
+      (λ e. let holds = holds-agree (block-agree map s t first-bytes e) len in
+      let same = size-same map s t first-bytes e in
+      on (headerHolds len (blockAt s 0))
+      (λ h. on (leb (length list) entry) (λ l. rw (e, ← holds, h, l) refl)
+      (λ l. on (linkable (len / size) number)
+      (λ k. on (pageHeld size map number)
+      (λ p. rw (
+        e,
+        ← holds,
+        ← same,
+        h,
+        l,
+        k,
+        p,
+        row-read-agree number table start (rank size list entry) (page-agree (reads e h (leb-false (length list) entry l) k p)),
+      ) refl)
+      (λ p. rw (e, ← holds, ← same, h, l, k, p) refl))
+      (λ k. rw (e, ← holds, ← same, h, l, k) refl)))
+      (λ h. rw (e, ← holds, h) refl))
+      (λ e. rw e refl)
+
+  -- the row of the entry, where it is found
+  module _ (r : ListedRow len m table list entry (getD list entry 0)) where
+    row : ReadRow number table (pagePart size s number) start (rank size list entry)
+    row = row-read number table (pagePart size s number) start (rank size list entry) (r .read)
+
+    found-reads : entryReads len m list entry ≡ true
+    found-reads =
+        let linked = both-inside (len / size) number (r .page .later) (r .page .inside .inside) in
+        reads (r .page .first) (r .page .header) (r .entry) linked (r .page .held)
+
+    row-agree : Agree (rowByte table (rowPart size s (getD list entry 0))) (rowPart size s (getD list entry 0)) (rowPart size t (getD list entry 0))
+    unfolding rowPart
+    row-agree = one-part number table start (rank size list entry) (page-agree found-reads) (row .header) (row .rows) (row .fits) (row .here)
+
+    row-good : checkRow table (rowPart size s (getD list entry 0)) ≡ given tt
+    unfolding rowPart
+    row-good = row .good
+
+    record-same : recordAt m table (getD list entry 0) ≡ recordAt n table (getD list entry 0)
+    record-same =
+        ap (λ x. given (found x)) (record-agree table row-good row-agree)
+        ∙ ap (λ (z : ℕ). given (found (readRecord table (rowPart z t (getD list entry 0))))) (size-same map s t first-bytes (r .page .first))
+
+    text-same : (slot : ℕ) → textAt m table slot (getD list entry 0) ≡ textAt n table slot (getD list entry 0)
+    text-same slot =
+        ap (textFound (getD list entry 0 / size) (getD list entry 0)) (slot-agree table row-good row-agree slot)
+        ∙ ap (λ (z : ℕ). textOn z t table slot (getD list entry 0)) (size-same map s t first-bytes (r .page .first))
+
+  -- the place that was found is the entry's
+  own-place : {place : ℕ} → ListedRow len m table list entry place → ListedRow len m table list entry (getD list entry 0)
+  own-place r = rw (r .named) r
+
+  pub record-agrees : recordListed len m list entry table ≡ recordListed len n list entry table
+  record-agrees =
+      rw (← listed-agree)
+      (then-listed len m table list entry (recordAt m table) (recordAt n table) (λ place r. rw (← r .named) (record-same (own-place r))))
+
+  pub text-agrees : (slot : ℕ) → textListed len m list entry slot table ≡ textListed len n list entry slot table
+  text-agrees slot =
+      rw (← listed-agree)
+      (on (ltb slot (slotCount table))
+      (λ h. rw h (then-listed len m table list entry (textAt m table slot) (textAt n table slot)
+      (λ place r. rw (← r .named) (text-same (own-place r) slot))))
+      (λ h. rw h refl))
