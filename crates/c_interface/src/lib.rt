@@ -277,7 +277,7 @@ pub extern "C" fn sarvoltig_record(
     )
 }
 
-// Asks for the record of the row that entry i of a list names.
+// Asks for the record of the row that element i of a list names.
 #[no_mangle]
 pub extern "C" fn sarvoltig_record_in(
     len: u64,
@@ -324,7 +324,7 @@ pub extern "C" fn sarvoltig_text(
     )
 }
 
-// Asks for a string slot of the row that entry i of a list names.
+// Asks for a string slot of the row that element i of a list names.
 #[no_mangle]
 pub extern "C" fn sarvoltig_text_in(
     len: u64,

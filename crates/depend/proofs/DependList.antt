@@ -38,7 +38,7 @@ use Rattle.run.proofs.ListKept.{record-in-same, text-in-same}
 use Rattle.depend.specs.Bytes.{pageAt, pageWith, firstBlockByte}
 use Rattle.depend.specs.Unread.{heldByte}
 use Rattle.depend.specs.Depend.{DecidedBy}
-use Rattle.depend.specs.ListBytes.{Reading, recordFrom, textFrom, readAnswer, entryReads, entryPageByte, listByte, listByteIn, readRelevant}
+use Rattle.depend.specs.ListBytes.{Reading, recordFrom, textFrom, readAnswer, elementReads, elementByte, listByte, listByteIn, readRelevant}
 use Rattle.depend.specs.DependList.{readOn, EveryReading}
 use Rattle.depend.proofs.Depend.{asked-same}
 use Rattle.depend.proofs.ListAgree.{record-agrees, text-agrees}
@@ -52,39 +52,39 @@ module _ (len : ℕ) (map : Words) (s t : Bytes) where
   abbrev n : Memory
   n = memory t map
 
-  record-agree : (number : ℕ) (list : Places) (entry : ℕ) → Agree (listByteIn len m list entry (askedTable len m number)) s t
-      → askRecordIn len m number list entry ≡ askRecordIn len n number list entry
+  record-agree : (number : ℕ) (list : Places) (element : ℕ) → Agree (listByteIn len m list element (askedTable len m number)) s t
+      → askRecordIn len m number list element ≡ askRecordIn len n number list element
   unfolding askRecordIn
-  record-agree number list entry a = rw (← asked-same len map s t (a .long) number) (by (askedTable len m number) a)
+  record-agree number list element a = rw (← asked-same len map s t (a .long) number) (by (askedTable len m number) a)
     where
-      by : (x : Answer Table) → Agree (listByteIn len m list entry x) s t → andThen x (recordListed len m list entry) ≡ andThen x (recordListed len n list entry)
-      by (given table) b = record-agrees len map s t table list entry b
+      by : (x : Answer Table) → Agree (listByteIn len m list element x) s t → andThen x (recordListed len m list element) ≡ andThen x (recordListed len n list element)
+      by (given table) b = record-agrees len map s t table list element b
       by (refused f) b = refl
 
-  text-agree : (number : ℕ) (list : Places) (entry slot : ℕ)
-      → Agree (listByteIn len m list entry (andThen (askedTable len m number) (λ table. withSlot slot table (given table)))) s t
-      → askTextIn len m number list entry slot ≡ askTextIn len n number list entry slot
+  text-agree : (number : ℕ) (list : Places) (element slot : ℕ)
+      → Agree (listByteIn len m list element (andThen (askedTable len m number) (λ table. withSlot slot table (given table)))) s t
+      → askTextIn len m number list element slot ≡ askTextIn len n number list element slot
   unfolding askTextIn
-  text-agree number list entry slot a = rw (← asked-same len map s t (a .long) number) (by (askedTable len m number) a)
+  text-agree number list element slot a = rw (← asked-same len map s t (a .long) number) (by (askedTable len m number) a)
     where
-      by : (x : Answer Table) → Agree (listByteIn len m list entry (andThen x (λ table. withSlot slot table (given table)))) s t
-          → andThen x (textListed len m list entry slot) ≡ andThen x (textListed len n list entry slot)
+      by : (x : Answer Table) → Agree (listByteIn len m list element (andThen x (λ table. withSlot slot table (given table)))) s t
+          → andThen x (textListed len m list element slot) ≡ andThen x (textListed len n list element slot)
       by (given table) b =
-          on (ltb slot (slotCount table)) (λ h. text-agrees len map s t table list entry (rw h at b) slot) (λ h. rw h refl)
+          on (ltb slot (slotCount table)) (λ h. text-agrees len map s t table list element (rw h at b) slot) (λ h. rw h refl)
       by (refused f) b = refl
 
 -- a relevant byte stands in a block that is held
-module _ (len : ℕ) (m : Memory) (list : Places) (entry i : ℕ) where
+module _ (len : ℕ) (m : Memory) (list : Places) (element i : ℕ) where
   abbrev number : ℕ
-  number = pageOf (pageSize m) list entry
+  number = pageOf (pageSize m) list element
 
-  entry-walked : entryReads len m list entry ≡ true → PageWalked len m number
-  unfolding entryReads
-  entry-walked e =
+  element-walked : elementReads len m list element ≡ true → PageWalked len m number
+  unfolding elementReads
+  element-walked e =
       let size = pageSize m in
       let file = both-true (bit (m .map) 0 && headerHolds len (blockAt (m .image) 0)) _ e in
       let first = both-true (bit (m .map) 0) (headerHolds len (blockAt (m .image) 0)) (file .0) in
-      let page = both-true (ltb entry (length list)) _ (file .1) in
+      let page = both-true (ltb element (length list)) _ (file .1) in
       let link = both-true (linkable (len / size) number) (pageHeld size (m .map) number) (page .1) in
       let inside = inside-both (len / size) number (link .0) in
       record {
@@ -95,46 +95,46 @@ module _ (len : ℕ) (m : Memory) (list : Places) (entry i : ℕ) where
         held = link .1;
       }
 
-  entry-held : (table : Table) → entryPageByte len m table list entry i ≡ true → heldByte len (m .map) i ≡ true
-  unfolding entryPageByte
-  entry-held table e =
+  element-held : (table : Table) → elementByte len m table list element i ≡ true → heldByte len (m .map) i ≡ true
+  unfolding elementByte
+  element-held table e =
       let size = pageSize m in
-      let parts = both-true (entryReads len m list entry) _ e in
-      let page = both-true (eqb (pageAt m i) number) (oneRowByte (pageAt m i) table (pageWith m i) (getD list entry 0 % size) (rank size list entry) (i % size)) (parts .1) in
-      page-held len m i (rw (eqb-true (pageAt m i) number (page .0)) (entry-walked (parts .0)))
+      let parts = both-true (elementReads len m list element) _ e in
+      let page = both-true (eqb (pageAt m i) number) (oneRowByte (pageAt m i) table (pageWith m i) (getD list element 0 % size) (rank size list element) (i % size)) (parts .1) in
+      page-held len m i (rw (eqb-true (pageAt m i) number (page .0)) (element-walked (parts .0)))
 
-  list-held : (asked : ℕ) (x : Answer Table) → x ≡ askedTable len m asked → listByteIn len m list entry x i ≡ true → heldByte len (m .map) i ≡ true
+  list-held : (asked : ℕ) (x : Answer Table) → x ≡ askedTable len m asked → listByteIn len m list element x i ≡ true → heldByte len (m .map) i ≡ true
   unfolding listByte
   list-held asked (given table) q e =
-      on (firstBlockByte m i) (λ h. header-held len m (asked-sound len m asked q) i h) (λ h. entry-held table (rw h at e))
+      on (firstBlockByte m i) (λ h. header-held len m (asked-sound len m asked q) i h) (λ h. element-held table (rw h at e))
   list-held asked (refused f) q e = absurd (false≢true e)
 
   slot-held : (asked slot : ℕ) (x : Answer Table) → x ≡ askedTable len m asked
-      → listByteIn len m list entry (andThen x (λ table. withSlot slot table (given table))) i ≡ true → heldByte len (m .map) i ≡ true
+      → listByteIn len m list element (andThen x (λ table. withSlot slot table (given table))) i ≡ true → heldByte len (m .map) i ≡ true
   slot-held asked slot (given table) q e =
       on (ltb slot (slotCount table)) (λ h. list-held asked (given table) q (rw h at e)) (λ h. absurd (false≢true (rw h at e)))
   slot-held asked slot (refused f) q e = absurd (false≢true e)
 
 read-held : (len : ℕ) (m : Memory) (r : Reading) (i : ℕ) → readRelevant len m r i ≡ true → heldByte len (m .map) i ≡ true
-read-held len m (recordFrom asked list entry) i e = list-held len m list entry i asked (askedTable len m asked) refl e
-read-held len m (textFrom asked list entry slot) i e = slot-held len m list entry i asked slot (askedTable len m asked) refl e
+read-held len m (recordFrom asked list element) i e = list-held len m list element i asked (askedTable len m asked) refl e
+read-held len m (textFrom asked list element slot) i e = slot-held len m list element i asked slot (askedTable len m asked) refl e
 
 those : (len : ℕ) (map : Words) (r : Reading) (image : Bytes) → DecidedBy (readRelevant len (memory image map) r) (readOn len map r) image
-those len map (recordFrom asked list entry) image other a = ap row (record-agree len map image other asked list entry a)
-those len map (textFrom asked list entry slot) image other a = ap text (text-agree len map image other asked list entry slot a)
+those len map (recordFrom asked list element) image other a = ap row (record-agree len map image other asked list element a)
+those len map (textFrom asked list element slot) image other a = ap text (text-agree len map image other asked list element slot a)
 
 -- memories that agree up to L and in the words in use
 module _ {len : ℕ} {m n : Memory} (a : SameInUse len m n) where
   both-refused : {f : Fault} → checked len m ≡ refused f → checked len n ≡ refused f → (r : Reading) → readAnswer len m r ≡ readAnswer len n r
   unfolding askRecordIn askTextIn
-  both-refused e g (recordFrom asked list entry) = rw (asked-refused len m asked e, asked-refused len n asked g) refl
-  both-refused e g (textFrom asked list entry slot) = rw (asked-refused len m asked e, asked-refused len n asked g) refl
+  both-refused e g (recordFrom asked list element) = rw (asked-refused len m asked e, asked-refused len n asked g) refl
+  both-refused e g (textFrom asked list element slot) = rw (asked-refused len m asked e, asked-refused len n asked g) refl
 
   both-sound : checked len m ≡ given tt → checked len n ≡ given tt → (r : Reading) → readAnswer len m r ≡ readAnswer len n r
-  both-sound e g (recordFrom asked list entry) =
-      ap row (sym (record-in-same e g (same-more (same-blocks a)) (same-blocks a) asked list entry))
-  both-sound e g (textFrom asked list entry slot) =
-      ap text (sym (text-in-same e g (same-more (same-blocks a)) (same-blocks a) asked list entry slot))
+  both-sound e g (recordFrom asked list element) =
+      ap row (sym (record-in-same e g (same-more (same-blocks a)) (same-blocks a) asked list element))
+  both-sound e g (textFrom asked list element slot) =
+      ap text (sym (text-in-same e g (same-more (same-blocks a)) (same-blocks a) asked list element slot))
 
   in-use : (r : Reading) → readAnswer len m r ≡ readAnswer len n r
   in-use r = by (checked len m) refl

@@ -34,7 +34,7 @@ use Rattle.export.specs.Asked.{askedTable}
 use Rattle.export.specs.Reads.{tableReads}
 use Rattle.depend.specs.Bytes.{walkedByte, firstBlockByte, tableByte, relevant}
 use Rattle.depend.specs.Unread.{inPresentRow, inAbsentRow, absentRow, unreadByte, unreadFor}
-use Rattle.depend.specs.ListBytes.{entryReads, entryPageByte, listByte}
+use Rattle.depend.specs.ListBytes.{elementReads, elementByte, listByte}
 use Rattle.depend.specs.Examples.{examples, ExamplesHold}
 
 pub examples-hold : ExamplesHold examples
@@ -45,5 +45,5 @@ unfolding le16 le32 anyFrom isMember within linkable headSize wholeSize textBehi
     pointersFrom kept pointerAmong chainIn tableChain directoryByte blockMissing pageHeld pagePart pageNext
     comesTo goesOn reads readsFrom askedTable tableReads walkedByte firstBlockByte tableByte relevant
     inPresentRow inAbsentRow absentRow unreadByte unreadFor
-    pageRow isRow oneRowByte runBefore rank entryReads entryPageByte listByte
+    pageRow isRow oneRowByte runBefore rank elementReads elementByte listByte
 examples-hold = refl

@@ -1,5 +1,5 @@
--- Rule 7.14: two images that agree on the relevant bytes of an entry of a list give the same row, record and strings for it.
---     listed-agree               the row that the entry names
+-- Rule 7.14: two images that agree on the relevant bytes of an element of a list give the same row, record and strings for it.
+--     listed-agree               the row that the element names
 --     record-agrees, text-agrees     what is read from it
 -- Rests on the agreement laws of crates `directory`, `page` and `row`.
 use mathlib.Core.Path.{_≡_, refl, sym, ap, _∙_}
@@ -41,11 +41,11 @@ use Rattle.export.specs.Text.{textFound, textOn, textAt}
 use Rattle.export.specs.FromList.{tableListed, recordListed, textListed}
 use Rattle.export.proofs.ListedRow.{ListedRow, then-listed}
 use Rattle.depend.specs.Bytes.{firstBlockByte}
-use Rattle.depend.specs.ListBytes.{entryReads, entryPageByte, listByte}
+use Rattle.depend.specs.ListBytes.{elementReads, elementByte, listByte}
 use Rattle.depend.proofs.PartAgree.{part-agree, block-agree, size-same}
 
-module _ (len : ℕ) (map : Words) (s t : Bytes) (table : Table) (list : Places) (entry : ℕ)
-    (a : Agree (listByte len (memory s map) table list entry) s t) where
+module _ (len : ℕ) (map : Words) (s t : Bytes) (table : Table) (list : Places) (element : ℕ)
+    (a : Agree (listByte len (memory s map) table list element) s t) where
   abbrev m : Memory
   m = memory s map
 
@@ -56,38 +56,38 @@ module _ (len : ℕ) (map : Words) (s t : Bytes) (table : Table) (list : Places)
   size = pageSize m
 
   abbrev number : ℕ
-  number = pageOf size list entry
+  number = pageOf size list element
 
   abbrev start : ℕ
-  start = getD list entry 0 % size
+  start = getD list element 0 % size
 
   first-bytes : Agree (firstBlockByte m) s t
   unfolding listByte
   first-bytes = agree-less (λ i e. or-left _ e) a
 
-  reads : bit map 0 ≡ true → headerHolds len (blockAt s 0) ≡ true → entry < length list → linkable (len / size) number ≡ true
-      → pageHeld size map number ≡ true → entryReads len m list entry ≡ true
-  unfolding entryReads
-  reads e h l k p = rw (e, h, lt-ltb entry (length list) l, k, p)
+  reads : bit map 0 ≡ true → headerHolds len (blockAt s 0) ≡ true → element < length list → linkable (len / size) number ≡ true
+      → pageHeld size map number ≡ true → elementReads len m list element ≡ true
+  unfolding elementReads
+  reads e h l k p = rw (e, h, lt-ltb element (length list) l, k, p)
 
-  page-byte : entryReads len m list entry ≡ true → (i : ℕ) → i < size
-      → oneRowByte number table (pagePart size s number) start (rank size list entry) i ≡ true → listByte len m table list entry (number * size + i) ≡ true
-  unfolding listByte entryPageByte
+  page-byte : elementReads len m list element ≡ true → (i : ℕ) → i < size
+      → oneRowByte number table (pagePart size s number) start (rank size list element) i ≡ true → listByte len m table list element (number * size + i) ≡ true
+  unfolding listByte elementByte
   page-byte r i h e =
       or-right (firstBlockByte m (number * size + i)) (simp (page-of size number i h, start-of size number i h, r, eq-eqb number number refl, e))
 
-  page-agree : entryReads len m list entry ≡ true
-      → Agree (oneRowByte number table (pagePart size s number) start (rank size list entry)) (pagePart size s number) (pagePart size t number)
-  page-agree r = part-agree a size number (oneRowByte number table (pagePart size s number) start (rank size list entry)) (page-byte r)
+  page-agree : elementReads len m list element ≡ true
+      → Agree (oneRowByte number table (pagePart size s number) start (rank size list element)) (pagePart size s number) (pagePart size t number)
+  page-agree r = part-agree a size number (oneRowByte number table (pagePart size s number) start (rank size list element)) (page-byte r)
 
-  listed-agree : tableListed len m list entry table ≡ tableListed len n list entry table
+  listed-agree : tableListed len m list element table ≡ tableListed len n list element table
   unfolding tableListed listedPlace
   listed-agree =
       on (bit map 0)
       (λ e. let holds = holds-agree (block-agree map s t first-bytes e) len in
       let same = size-same map s t first-bytes e in
       on (headerHolds len (blockAt s 0))
-      (λ h. on (leb (length list) entry) (λ l. rw (e, ← holds, h, l) refl)
+      (λ h. on (leb (length list) element) (λ l. rw (e, ← holds, h, l) refl)
       (λ l. on (linkable (len / size) number)
       (λ k. on (pageHeld size map number)
       (λ p. rw (
@@ -98,54 +98,54 @@ module _ (len : ℕ) (map : Words) (s t : Bytes) (table : Table) (list : Places)
         l,
         k,
         p,
-        row-read-agree number table start (rank size list entry) (page-agree (reads e h (leb-false (length list) entry l) k p)),
+        row-read-agree number table start (rank size list element) (page-agree (reads e h (leb-false (length list) element l) k p)),
       ) refl)
       (λ p. rw (e, ← holds, ← same, h, l, k, p) refl))
       (λ k. rw (e, ← holds, ← same, h, l, k) refl)))
       (λ h. rw (e, ← holds, h) refl))
       (λ e. rw e refl)
 
-  -- the row of the entry, where it is found
-  module _ (r : ListedRow len m table list entry (getD list entry 0)) where
-    row : ReadRow number table (pagePart size s number) start (rank size list entry)
-    row = row-read number table (pagePart size s number) start (rank size list entry) (r .read)
+  -- the row of the element, where it is found
+  module _ (r : ListedRow len m table list element (getD list element 0)) where
+    row : ReadRow number table (pagePart size s number) start (rank size list element)
+    row = row-read number table (pagePart size s number) start (rank size list element) (r .read)
 
-    found-reads : entryReads len m list entry ≡ true
+    found-reads : elementReads len m list element ≡ true
     found-reads =
         let linked = both-inside (len / size) number (r .page .later) (r .page .inside .inside) in
-        reads (r .page .first) (r .page .header) (r .entry) linked (r .page .held)
+        reads (r .page .first) (r .page .header) (r .element) linked (r .page .held)
 
-    row-agree : Agree (rowByte table (rowPart size s (getD list entry 0))) (rowPart size s (getD list entry 0)) (rowPart size t (getD list entry 0))
+    row-agree : Agree (rowByte table (rowPart size s (getD list element 0))) (rowPart size s (getD list element 0)) (rowPart size t (getD list element 0))
     unfolding rowPart
-    row-agree = one-part number table start (rank size list entry) (page-agree found-reads) (row .header) (row .rows) (row .fits) (row .here)
+    row-agree = one-part number table start (rank size list element) (page-agree found-reads) (row .header) (row .rows) (row .fits) (row .here)
 
-    row-good : checkRow table (rowPart size s (getD list entry 0)) ≡ given tt
+    row-good : checkRow table (rowPart size s (getD list element 0)) ≡ given tt
     unfolding rowPart
     row-good = row .good
 
-    record-same : recordAt m table (getD list entry 0) ≡ recordAt n table (getD list entry 0)
+    record-same : recordAt m table (getD list element 0) ≡ recordAt n table (getD list element 0)
     record-same =
         ap (λ x. given (found x)) (record-agree table row-good row-agree)
-        ∙ ap (λ (z : ℕ). given (found (readRecord table (rowPart z t (getD list entry 0))))) (size-same map s t first-bytes (r .page .first))
+        ∙ ap (λ (z : ℕ). given (found (readRecord table (rowPart z t (getD list element 0))))) (size-same map s t first-bytes (r .page .first))
 
-    text-same : (slot : ℕ) → textAt m table slot (getD list entry 0) ≡ textAt n table slot (getD list entry 0)
+    text-same : (slot : ℕ) → textAt m table slot (getD list element 0) ≡ textAt n table slot (getD list element 0)
     text-same slot =
-        ap (textFound (getD list entry 0 / size) (getD list entry 0)) (slot-agree table row-good row-agree slot)
-        ∙ ap (λ (z : ℕ). textOn z t table slot (getD list entry 0)) (size-same map s t first-bytes (r .page .first))
+        ap (textFound (getD list element 0 / size) (getD list element 0)) (slot-agree table row-good row-agree slot)
+        ∙ ap (λ (z : ℕ). textOn z t table slot (getD list element 0)) (size-same map s t first-bytes (r .page .first))
 
-  -- the place that was found is the entry's
-  own-place : {place : ℕ} → ListedRow len m table list entry place → ListedRow len m table list entry (getD list entry 0)
+  -- the place that was found is the element's
+  own-place : {place : ℕ} → ListedRow len m table list element place → ListedRow len m table list element (getD list element 0)
   own-place r = rw (r .named) r
 
-  pub record-agrees : recordListed len m list entry table ≡ recordListed len n list entry table
+  pub record-agrees : recordListed len m list element table ≡ recordListed len n list element table
   record-agrees =
       rw (← listed-agree)
-      (then-listed len m table list entry (recordAt m table) (recordAt n table) (λ place r. rw (← r .named) (record-same (own-place r))))
+      (then-listed len m table list element (recordAt m table) (recordAt n table) (λ place r. rw (← r .named) (record-same (own-place r))))
 
-  pub text-agrees : (slot : ℕ) → textListed len m list entry slot table ≡ textListed len n list entry slot table
+  pub text-agrees : (slot : ℕ) → textListed len m list element slot table ≡ textListed len n list element slot table
   text-agrees slot =
       rw (← listed-agree)
       (on (ltb slot (slotCount table))
-      (λ h. rw h (then-listed len m table list entry (textAt m table slot) (textAt n table slot)
+      (λ h. rw h (then-listed len m table list element (textAt m table slot) (textAt n table slot)
       (λ place r. rw (← r .named) (text-same (own-place r) slot))))
       (λ h. rw h refl))

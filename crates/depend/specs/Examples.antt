@@ -77,7 +77,7 @@ unread i = record { found = unreadFor 2048 (memory genres (all ∷ [])) (allRows
 abbrev pub read : ℕ → Example
 read i = record { found = unreadFor 2048 (memory genres (all ∷ [])) (allRows 1 []) i; said = false }
 
--- for the record of entry 0 of this list of table 1 byte i is relevant, or it is not; every block is held
+-- for the record of element 0 of this list of table 1 byte i is relevant, or it is not; every block is held
 abbrev pub yesAt : (list : Places) (i : ℕ) → Example
 yesAt list i = record { found = readRelevant 2048 (memory genres (all ∷ [])) (recordFrom 1 list 0) i; said = true }
 
@@ -111,7 +111,7 @@ examples =
     -- read from a list: block 0, of page 2 its header and row index and the row that is named, and nothing of page 1
     yesAt (1080 ∷ []) 0x04 ∷ yesAt (1080 ∷ []) 1028 ∷ yesAt (1080 ∷ []) 1528 ∷ yesAt (1080 ∷ []) 1532 ∷ yesAt (1080 ∷ []) 1084 ∷
     noAt (1080 ∷ []) 1079 ∷ noAt (1080 ∷ []) 1534 ∷ noAt (1080 ∷ []) 516 ∷
-    -- the place of the absent row: no byte of any row; a place on page 0, and no entry: block 0 alone
+    -- the place of the absent row: no byte of any row; a place on page 0, and no element: block 0 alone
     yesAt (1064 ∷ []) 1532 ∷ noAt (1064 ∷ []) 1064 ∷ noAt (1064 ∷ []) 1080 ∷ noAt (40 ∷ []) 516 ∷ yesAt [] 0x1c ∷ noAt [] 1028 ∷
     []
 

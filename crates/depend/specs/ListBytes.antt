@@ -22,35 +22,35 @@ use Rattle.depend.specs.Bytes.{pageAt, pageWith, firstBlockByte}
 
 -- what is read from a list
 pub data Reading : Type 0 where
-  recordFrom : (table : ℕ) (list : Places) (entry : ℕ) → Reading
-  textFrom : (table : ℕ) (list : Places) (entry slot : ℕ) → Reading
+  recordFrom : (table : ℕ) (list : Places) (element : ℕ) → Reading
+  textFrom : (table : ℕ) (list : Places) (element slot : ℕ) → Reading
 
 -- what it answers
 abbrev pub readAnswer : (len : ℕ) (m : Memory) (r : Reading) → CallReply
-readAnswer len m (recordFrom table list entry) = row (askRecordIn len m table list entry)
-readAnswer len m (textFrom table list entry slot) = text (askTextIn len m table list entry slot)
+readAnswer len m (recordFrom table list element) = row (askRecordIn len m table list element)
+readAnswer len m (textFrom table list element slot) = text (askTextIn len m table list element slot)
 
--- is true exactly when the page of an entry is read: block 0 is held, its header holds, and the entry names a page of the file that is held
-unfoldable pub entryReads : (len : ℕ) (m : Memory) (list : Places) (entry : ℕ) → Bool
-entryReads len m list entry =
-    (bit (m .map) 0 && headerHolds len (blockAt (m .image) 0)) && (ltb entry (length list)
-    && (linkable (len / pageSize m) (pageOf (pageSize m) list entry) && pageHeld (pageSize m) (m .map) (pageOf (pageSize m) list entry)))
+-- is true exactly when the page of an element is read: block 0 is held, its header holds, and the element names a page of the file that is held
+unfoldable pub elementReads : (len : ℕ) (m : Memory) (list : Places) (element : ℕ) → Bool
+elementReads len m list element =
+    (bit (m .map) 0 && headerHolds len (blockAt (m .image) 0)) && (ltb element (length list)
+    && (linkable (len / pageSize m) (pageOf (pageSize m) list element) && pageHeld (pageSize m) (m .map) (pageOf (pageSize m) list element)))
 
 -- byte i of the image is relevant as byte i % len_page of that page
-unfoldable pub entryPageByte : (len : ℕ) (m : Memory) (table : Table) (list : Places) (entry i : ℕ) → Bool
-entryPageByte len m table list entry i =
-    entryReads len m list entry && (eqb (pageAt m i) (pageOf (pageSize m) list entry)
-    && oneRowByte (pageAt m i) table (pageWith m i) (getD list entry 0 % pageSize m) (rank (pageSize m) list entry) (i % pageSize m))
+unfoldable pub elementByte : (len : ℕ) (m : Memory) (table : Table) (list : Places) (element i : ℕ) → Bool
+elementByte len m table list element i =
+    elementReads len m list element && (eqb (pageAt m i) (pageOf (pageSize m) list element)
+    && oneRowByte (pageAt m i) table (pageWith m i) (getD list element 0 % pageSize m) (rank (pageSize m) list element) (i % pageSize m))
 
-unfoldable pub listByte : (len : ℕ) (m : Memory) (table : Table) (list : Places) (entry i : ℕ) → Bool
-listByte len m table list entry i = firstBlockByte m i || entryPageByte len m table list entry i
+unfoldable pub listByte : (len : ℕ) (m : Memory) (table : Table) (list : Places) (element i : ℕ) → Bool
+listByte len m table list element i = firstBlockByte m i || elementByte len m table list element i
 
 -- Rule 7.12: where nothing is read, no byte is relevant
-abbrev pub listByteIn : (len : ℕ) (m : Memory) (list : Places) (entry : ℕ) (table : Answer Table) (i : ℕ) → Bool
-listByteIn len m list entry (given table) i = listByte len m table list entry i
-listByteIn len m list entry (refused f) i = false
+abbrev pub listByteIn : (len : ℕ) (m : Memory) (list : Places) (element : ℕ) (table : Answer Table) (i : ℕ) → Bool
+listByteIn len m list element (given table) i = listByte len m table list element i
+listByteIn len m list element (refused f) i = false
 
 -- byte i of the image is relevant for reading from a list
 abbrev pub readRelevant : (len : ℕ) (m : Memory) (r : Reading) (i : ℕ) → Bool
-readRelevant len m (recordFrom table list entry) i = listByteIn len m list entry (askedTable len m table) i
-readRelevant len m (textFrom table list entry slot) i = listByteIn len m list entry (askedSlot len m table slot) i
+readRelevant len m (recordFrom table list element) i = listByteIn len m list element (askedTable len m table) i
+readRelevant len m (textFrom table list element slot) i = listByteIn len m list element (askedSlot len m table slot) i

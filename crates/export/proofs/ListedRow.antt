@@ -1,4 +1,4 @@
--- The row that an entry of a list names (specs/FromList).
+-- The row that an element of a list names (specs/FromList).
 --     ListedRow, listed-found, found-listed    what is known of a row that is found so, and the other way round
 --     then-listed                              answers that agree wherever it is found
 --     rows-ranked                              each row that the walk for a table finds is the row of its rank on its page
@@ -29,7 +29,7 @@ use Rattle.chain.specs.Held.{pageHeld}
 use Rattle.chain.specs.File.{pagePart}
 use Rattle.chain.proofs.Linkable.{inside-both, both-inside}
 use Rattle.listed.specs.Rank.{pageOf, runBefore, rank}
-use Rattle.listed.specs.Listed.{readEntry, listedPlace}
+use Rattle.listed.specs.Listed.{readElement, listedPlace}
 use Rattle.listed.proofs.RunsInRows.{run-front}
 use Rattle.listed.proofs.RowsRanked.{RowThere, RowsThere, rows-there}
 use Rattle.export.specs.Walk.{pageSize, tableWalk}
@@ -41,7 +41,7 @@ use Rattle.export.proofs.FoundRow.{FoundRow}
 use Rattle.export.proofs.TablePlaces.{allowed-file}
 
 pub record ListedRow (len : ℕ) (m : Memory) (table : Table) (list : Places) (i place : ℕ) : Type 0 where
-  pub entry : i < length list
+  pub element : i < length list
   pub named : getD list i 0 ≡ place
   pub page : PageWalked len m (place / pageSize m)
   pub read : readRow (place / pageSize m) table (pagePart (pageSize m) (m .image) (place / pageSize m)) (place % pageSize m) (rank (pageSize m) list i)
@@ -54,16 +54,16 @@ module _ (len : ℕ) (m : Memory) (table : Table) (list : Places) (i : ℕ) wher
   abbrev number : ℕ
   number = pageOf size list i
 
-  -- entry i is read from this page
+  -- element i is read from this page
   row-there : (place : ℕ) → bit (m .map) 0 ≡ true → headerHolds len (blockAt (m .image) 0) ≡ true → leb (length list) i ≡ false
-      → linkable (len / size) number ≡ true → pageHeld size (m .map) number ≡ true → (answer : Answer (Unit {0})) → readEntry size table (m .image) list i ≡ answer
+      → linkable (len / size) number ≡ true → pageHeld size (m .map) number ≡ true → (answer : Answer (Unit {0})) → readElement size table (m .image) list i ≡ answer
       → andThen answer (λ _. given (found (getD list i 0))) ≡ given (found place) → ListedRow len m table list i place
   row-there place b h e l p (given tt) r q =
       let named : getD list i 0 ≡ place = cc in
       let inside = inside-both (len / size) number l in
       rw (sym named)
       record {
-        entry = leb-false (length list) i e;
+        element = leb-false (length list) i e;
         named = refl;
         page = record {
           first = b;
@@ -84,7 +84,7 @@ module _ (len : ℕ) (m : Memory) (table : Table) (list : Places) (i : ℕ) wher
       (λ h. on (leb (length list) i) (λ e. never (cc (rw (b, h, e) at q)))
       (λ e. on (linkable (len / size) number)
       (λ l. on (pageHeld size (m .map) number)
-      (λ p. row-there place b h e l p (readEntry size table (m .image) list i) refl (rw (b, h, e, l, p) at q))
+      (λ p. row-there place b h e l p (readElement size table (m .image) list i) refl (rw (b, h, e, l, p) at q))
       (λ p. never (cc (rw (b, h, e, l, p) at q))))
       (λ l. never (cc (rw (b, h, e, l) at q)))))
       (λ h. never (cc (rw (b, h) at q))))
@@ -94,7 +94,7 @@ module _ (len : ℕ) (m : Memory) (table : Table) (list : Places) (i : ℕ) wher
   unfolding tableListed listedPlace
   found-listed {place} r =
       let linked = both-inside (len / size) (place / size) (r .page .later) (r .page .inside .inside) in
-      rw (r .page .first, r .page .header, lt-leb (length list) i (r .entry), r .named, linked, r .page .held, r .read)
+      rw (r .page .first, r .page .header, lt-leb (length list) i (r .element), r .named, linked, r .page .held, r .read)
 
   -- two answers about the row that agree wherever it is found
   pub then-listed : {A : Type 0} (f g : ℕ → Answer (Found A)) → ((place : ℕ) → ListedRow len m table list i place → f place ≡ g place)
@@ -126,7 +126,7 @@ module _ (len : ℕ) (m : Memory) (table : Table) (sound : Sound len m) where
       let fits = start-fits (place / size) table page (place % size) (rank size rows i) there in
       found-listed len m table list i
       (record {
-        entry = omega arith;
+        element = omega arith;
         named = same i h;
         page = r .page;
         read = rw ranks (read-row-good (place / size) table page (place % size) (rank size rows i)

@@ -1,5 +1,5 @@
 -- What reading from a list answers before and after the file header (rule 5.28), by the tests of the code.
---     block-missing, header-broken, entry-read     block 0 is not held; its header is broken; it is not, and the entry answers
+--     block-missing, header-broken, element-read     block 0 is not held; its header is broken; it is not, and the element answers
 --     listed-place                                 any answer about the row goes by its place
 use mathlib.Core.Path.{_≡_, refl}
 use mathlib.Core.Bool.{Bool, true, false}
@@ -27,11 +27,11 @@ module _ (len : ℕ) (m : Memory) (list : Places) (i : ℕ) (table : Table) wher
     unfolding tableListed
     header-broken h = rw (b, ← e, h)
 
-    pub entry-read : holds ≡ true → {size : ℕ} → size ≡ pageSize m → {answer : Answer (Found ℕ)}
+    pub element-read : holds ≡ true → {size : ℕ} → size ≡ pageSize m → {answer : Answer (Found ℕ)}
         → answer ≡ listedPlace size (len / size) table (m .image) (m .map) list i
         → thenFound answer (rowAt size) ≡ thenFound (tableListed len m list i table) (rowAt (pageSize m))
     unfolding tableListed
-    entry-read h s a = rw (b, ← e, h, a, s) refl
+    element-read h s a = rw (b, ← e, h, a, s) refl
 
 pub listed-place : {A : Type 0} (size : ℕ) (place : Answer (Found ℕ)) (answer : RowPlace → Answer (Found A))
     → thenFound (thenFound place (rowAt size)) answer ≡ thenFound place (λ (at : ℕ). answer (rowPlace size at))

@@ -1,4 +1,4 @@
--- Reading from a list of places: the record, or a string, of the row that entry i of the list names. Rules 5.27 to 5.31.
+-- Reading from a list of places: the record, or a string, of the row that element i of the list names. Rules 5.27 to 5.31.
 -- Rests on `listedPlace` of crate `listed`.
 use mathlib.Core.Bool.{cond, not}
 use Prim.Native.Nat.{ℕ, _/_}
@@ -17,7 +17,7 @@ use Rattle.export.specs.Walk.{pageSize}
 use Rattle.export.specs.Record.{recordAt}
 use Rattle.export.specs.Text.{TextPlace, textAt}
 
--- Rule 5.28: block 0, then the file header (9), then the entry; the row's place
+-- Rule 5.28: block 0, then the file header (9), then the element; the row's place
 unfoldable pub tableListed : (len : ℕ) (m : Memory) (list : Places) (i : ℕ) (table : Table) → Answer (Found ℕ)
 tableListed len m list i table =
     cond (not (bit (m .map) 0)) (given (waiting 0 0 0))

@@ -232,7 +232,7 @@ fn find_row(len: u64, image: &[u8], map: &[u64], table: Table, k: usize) -> RowR
     }
 }
 
-// The row that entry i of a list names. Of block 0 the header is read, and of the rest one page.
+// The row that element i of a list names. Of block 0 the header is read, and of the rest one page.
 fn find_listed(
     len: u64,
     image: &[u8],
@@ -296,7 +296,7 @@ pub fn record(intake: Intake, image: &[u8], map: &[u64], number: u32, k: usize) 
     }
 }
 
-// The record of the row that entry i of a list names. Of the table one page is read.
+// The record of the row that element i of a list names. Of the table one page is read.
 pub fn record_in(
     intake: Intake,
     image: &[u8],
@@ -380,7 +380,7 @@ pub fn text(
     }
 }
 
-// The text of a string slot of the row that entry i of a list names. Of the table one page is read.
+// The text of a string slot of the row that element i of a list names. Of the table one page is read.
 pub fn text_in(
     intake: Intake,
     image: &[u8],

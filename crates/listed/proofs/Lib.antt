@@ -1,6 +1,6 @@
--- How a row is found by an entry of a list.
+-- How a row is found by an element of a list.
 --     SamePage         a place lies on a page by where the page starts and ends
---     RunLoop          the loop that counts the places directly before an entry
+--     RunLoop          the loop that counts the places directly before an element
 --     ListedRungs      which rung of `listedPlace` answers, by the tests of the code
 --     RunsInRows, RowsRanked     the rows that a walk finds have their numbers on their pages as ranks
 pub mod SamePage

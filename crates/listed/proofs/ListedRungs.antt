@@ -1,5 +1,5 @@
 -- Rules 5.29 to 5.31: which rung of `listedPlace` answers, by the tests of the code.
---     past-list, no-page, page-missing     the entry, its page, and the page's blocks
+--     past-list, no-page, page-missing     the element, its page, and the page's blocks
 --     row-read                             the row is read
 use mathlib.Core.Path.{_≡_}
 use mathlib.Core.Bool.{Bool, true, false}

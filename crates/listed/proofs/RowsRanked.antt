@@ -75,7 +75,7 @@ module _ (size number : ℕ) (table : Table) (page : Bytes) (long : length page 
   pub page-rows-on : AllOn size number rows
   page-rows-on = each-every (λ (place : ℕ). place / size ≡ number) rows 0 row-page
 
--- the row of entry i is where it is said to be
+-- the row of element i is where it is said to be
 abbrev pub RowThere : (size : ℕ) (image : Bytes) (rows : Places) (i : ℕ) → Type 0
 RowThere size image rows i = isRow (pagePart size image (pageOf size rows i)) (getD rows i 0 % size) (rank size rows i) ≡ true
 

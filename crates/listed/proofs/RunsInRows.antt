@@ -62,7 +62,7 @@ module _ (size : ℕ) where
         let on-page = each-at (λ (place : ℕ). place / size ≡ page) rows i 0 here (omega arith) in
         rw (add-suc (length front) i, row-at i (omega arith), eq-eqb (getD rows i 0 / size) page on-page, run-at i (omega arith), add-one i)
 
-  -- entry i of these rows is a row of one of the chain's pages, and its rank says which
+  -- element i of these rows is a row of one of the chain's pages, and its rank says which
   pub record Ranked (next : ℕ → ℕ) (rowsOf : ℕ → Places) (k first : ℕ) (all : Places) (i : ℕ) : Type 0 where
     pub page : ℕ
     pub number : ℕ

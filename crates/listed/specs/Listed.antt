@@ -1,4 +1,4 @@
--- Rules 5.29 to 5.31: the row that an entry of a list of places names, from the one page that it is said to lie on.
+-- Rules 5.29 to 5.31: the row that an element of a list of places names, from the one page that it is said to lie on.
 -- Rests on reading one row of a page (page/OneRow), on the pages of a file (chain/File) and on the rank (specs/Rank).
 use mathlib.Core.Bool.{cond, not}
 use Prim.Native.Nat.{ℕ, _%_}
@@ -17,18 +17,18 @@ use Rattle.listed.specs.declared.Listed.{Listed}
 use Rattle.listed.specs.declared.Listed.the-variants.{At, Waiting, Refused}
 use Rattle.listed.specs.Rank.{pageOf, rank}
 
--- reading the row of entry i from its page
-abbrev pub readEntry : (size : ℕ) (table : Table) (image : Bytes) (list : Places) (i : ℕ) → Answer (Unit {0})
-readEntry size table image list i =
+-- reading the row of element i from its page
+abbrev pub readElement : (size : ℕ) (table : Table) (image : Bytes) (list : Places) (i : ℕ) → Answer (Unit {0})
+readElement size table image list i =
     readRow (pageOf size list i) table (pagePart size image (pageOf size list i)) (getD list i 0 % size) (rank size list i)
 
--- the place of the row that entry i names, in a file of so many pages of size bytes
+-- the place of the row that element i names, in a file of so many pages of size bytes
 unfoldable pub listedPlace : (size pageCount : ℕ) (table : Table) (image : Bytes) (map : Words) (list : Places) (i : ℕ) → Answer (Found ℕ)
 listedPlace size pageCount table image map list i =
     refuseIf (leb (length list) i) (fault 18 0)
     (refuseIf (not (linkable pageCount (pageOf size list i))) (fault 18 0)
     (cond (not (pageHeld size map (pageOf size list i))) (given (waiting (pageOf size list i) 0 0))
-    (andThen (readEntry size table image list i) (λ _.
+    (andThen (readElement size table image list i) (λ _.
     given (found (getD list i 0))))))
 
 -- the answer for each case of the code's enum

@@ -1,4 +1,4 @@
-// The row that an entry of a list of places names, read from one page.
+// The row that an element of a list of places names, read from one page.
 ghost use mathlib.Core.Path.{_≡_};
 ghost use Prim.Native.Nat.{_%_, _/_, _<_, _≤_};
 ghost use lib.ListN.{length};
@@ -14,7 +14,7 @@ use page::RowRead;
 use refusal::Refusal;
 use table::Table;
 
-// The row of an entry: its place, or the page that is waited for.
+// The row of an element: its place, or the page that is waited for.
 pub enum Listed {
     At(u32),
     Waiting(u32),
@@ -32,7 +32,7 @@ fn lies_on(place: u32, first: u32, size: u32) -> bool
     place - first < size
 }
 
-// How many of the places directly before entry i lie on the page that starts at a byte.
+// How many of the places directly before element i lie on the page that starts at a byte.
 fn run_before(list: &[u32], i: usize, first: u32, size: u32) -> usize
     requires { ⌜ (i ≤ length (now list)) × ((0 < size) × (first % size ≡ 0)) ⌝ }
     ensures { λ r. ⌜ r ≡ runBefore size (now (list .entry)) (first / size) i ⌝ }
@@ -64,7 +64,7 @@ fn find_on(size: u32, table: Table, image: &[u8], place: u32, rank: usize) -> Li
     }
 }
 
-// The row that entry i of a list names, in a file of page_count pages of size bytes. Of the image one page is read.
+// The row that element i of a list names, in a file of page_count pages of size bytes. Of the image one page is read.
 pub fn find(
     size: u32,
     page_count: u64,

@@ -1,5 +1,5 @@
 -- Rule 8.15 (specs/FromList, `EveryRunKeepsLists`): what is read from a list without waiting is read again where more blocks are held.
---     listed-kept                  the row that an entry names
+--     listed-kept                  the row that an element names
 --     records-kept, texts-kept     the records and strings
 --     lists-kept                   so those of the rows that all rows left
 --     record-in-same, text-in-same     where the same blocks are held, every answer is the same

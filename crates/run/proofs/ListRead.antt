@@ -1,7 +1,7 @@
 -- Rule 5.32 (specs/FromList, `EveryList`): the list that all rows left begins with the rows found, and each is read as it was found.
 --     list-reads                        so it answers as the questions do
 --     record-settled, text-settled      and their answers about a row that was written do not wait
--- Rests on the row that an entry names (export: ListedRow).
+-- Rests on the row that an element names (export: ListedRow).
 use mathlib.Core.Path.{_≡_, refl, ap, _∙_}
 use mathlib.Core.Bool.{false}
 use Prim.Native.Nat.{ℕ, _/_, _<_, _≤_}
@@ -46,11 +46,11 @@ module _ (list rows : Places) (h : length rows ≤ length list) where
   written-at j l = ap (λ (x : Places). getD x j 0) (written-front list rows h) ∙ List·getD-append rows (drop (length rows) list) 0 j l
 
 module _ (len : ℕ) (m : Memory) (table : Table) (sound : Sound len m) (list : Places) (i : ℕ) {A : Type 0} (answer : ℕ → Answer (Found A)) where
-  -- entry i of the rows found
+  -- element i of the rows found
   module _ (rows : Places) (each : Each (FoundRow len m table) rows) (there : (k : ℕ) → k < length rows → RowThere (pageSize m) (m .image) rows k)
       (short : ltb (length list) (length rows) ≡ false) (h : i < length rows) where
-    entry-read : thenFound (tableListed len m (written list rows) i table) answer ≡ answer (getD rows i 0)
-    entry-read =
+    element-read : thenFound (tableListed len m (written list rows) i table) answer ≡ answer (getD rows i 0)
+    element-read =
         let long = ltb-false (length list) (length rows) short in
         rw (row-listed len m table sound rows (written list rows) i h (written-long list rows long) (written-at list rows long)
         (each-at (FoundRow len m table) rows i 0 each h) (there i h)) refl
@@ -59,10 +59,10 @@ module _ (len : ℕ) (m : Memory) (table : Table) (sound : Sound len m) (list : 
       → thenFound (tableListed len m (listAfter list w (rowsAnswer list w)) i table) answer ≡ settleRow answer i w
   read-as-settled (given (full rows pages)) each there h =
       on (ltb (length list) (length rows)) (λ s. absurd (omega (arith, rw s at h)))
-      (λ s. let l : i < length rows = rw s at h in rw (s, lt-ltb i (length rows) l) (entry-read rows each there s l))
+      (λ s. let l : i < length rows = rw s at h in rw (s, lt-ltb i (length rows) l) (element-read rows each there s l))
   read-as-settled (given (waiting page rows pages)) each there h =
       on (ltb (length list) (length rows)) (λ s. absurd (omega (arith, rw s at h)))
-      (λ s. let l : i < length rows = rw s at h in rw (s, lt-ltb i (length rows) l) (entry-read rows each there s l))
+      (λ s. let l : i < length rows = rw s at h in rw (s, lt-ltb i (length rows) l) (element-read rows each there s l))
   read-as-settled (refused f) each there h = absurd (omega arith)
 
   pub read-as-asked : i < rowsWritten (rowsAnswer list (tableWalk len m table))

@@ -15,7 +15,7 @@ use Rattle.run.specs.Call.{Call}
 use Rattle.run.specs.Run.{Opens, runMemory}
 
 -- what is read in the second state from the list that a question for all rows left in the first is what the questions answer in the first:
--- entry i is row i, for each row written
+-- element i is row i, for each row written
 pub record ReadsAsAsked (len : ℕ) (asked read : Memory) (table : ℕ) (list : Places) : Type 0 where
   pub records : (i : ℕ) → i < rowsWritten (askRows len asked table list .answer)
       → askRecordIn len read table (askRows len asked table list .list) i ≡ askRecord len asked table i

@@ -1,4 +1,4 @@
--- `export::find_listed` meets its contract: block 0's bit and the header choose the case, and then the entry answers (proofs/ListedStart).
+-- `export::find_listed` meets its contract: block 0's bit and the header choose the case, and then the element answers (proofs/ListedStart).
 use mathlib.Core.Path.{sym, ap, _∙_}
 use native.Mathlib.Omega.{arith}
 use borrow.Author.Tests.{not-true, not-false}
@@ -6,7 +6,7 @@ use Rattle.lists.specs.Alias.{Bytes}
 use Rattle.intake.specs.Memory.{memory}
 use Rattle.directory.specs.Header.{len-page}
 use Rattle.directory.proofs.GoodHeader.{good-header}
-use Rattle.export.proofs.ListedStart.{block-missing, header-broken, entry-read}
+use Rattle.export.proofs.ListedStart.{block-missing, header-broken, element-read}
 use borrow.Author.Needs.{needs}
 use Rattle.export.proofs.find_listed.Statement.{statement}
 use Rattle.export.proofs.find_listed.Tie as tie
@@ -73,7 +73,7 @@ returns-3 c =
     let held = sym (test .before .has-bit .ensures) ∙ not-false _ (test .if1 .left) in
     let holds = rw (block .first-block .ensures) at (header .before .header-holds .ensures) in
     let read = size .u32-at .ensures ∙ ap (λ (b : Bytes). len-page b) (block .first-block .ensures) in
-    entry-read (a .len) m (a .list .now) (a .i) (a .table) held holds (not-false _ (header .if2 .left)) read
+    element-read (a .len) m (a .list .now) (a .i) (a .table) held holds (not-false _ (header .if2 .left)) read
     (rw (c .before .found .given .1) at (find .find .ensures))
 
 returns-4 : tie.Need-returns-4
@@ -88,7 +88,7 @@ returns-4 c =
     let held = sym (test .before .has-bit .ensures) ∙ not-false _ (test .if1 .left) in
     let holds = rw (block .first-block .ensures) at (header .before .header-holds .ensures) in
     let read = size .u32-at .ensures ∙ ap (λ (b : Bytes). len-page b) (block .first-block .ensures) in
-    entry-read (a .len) m (a .list .now) (a .i) (a .table) held holds (not-false _ (header .if2 .left)) read
+    element-read (a .len) m (a .list .now) (a .i) (a .table) held holds (not-false _ (header .if2 .left)) read
     (rw (c .before .found2 .given .1) at (find .find .ensures))
 
 returns-5 : tie.Need-returns-5
@@ -103,7 +103,7 @@ returns-5 c =
     let held = sym (test .before .has-bit .ensures) ∙ not-false _ (test .if1 .left) in
     let holds = rw (block .first-block .ensures) at (header .before .header-holds .ensures) in
     let read = size .u32-at .ensures ∙ ap (λ (b : Bytes). len-page b) (block .first-block .ensures) in
-    entry-read (a .len) m (a .list .now) (a .i) (a .table) held holds (not-false _ (header .if2 .left)) read
+    element-read (a .len) m (a .list .now) (a .i) (a .table) held holds (not-false _ (header .if2 .left)) read
     (rw (c .before .found3 .given .1) at (find .find .ensures))
 
 pub find-listed-spec : {M : Type 1} → statement M

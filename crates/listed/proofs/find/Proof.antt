@@ -34,8 +34,8 @@ linkable-requires c κs = search needs
 
 returns-3 : tie.Need-returns-3
 returns-3 c =
-    let entry = c .before .before .before .before in
-    no-page _ _ _ _ _ _ _ (entry .if1 .left) (c .before .linkable .ensures) (not-true _ (c .if3 .taken))
+    let element = c .before .before .before .before in
+    no-page _ _ _ _ _ _ _ (element .if1 .left) (c .before .linkable .ensures) (not-true _ (c .if3 .taken))
 
 is-held-requires : tie.Need-is-held-requires
 is-held-requires c κs = search needs
@@ -43,8 +43,8 @@ is-held-requires c κs = search needs
 returns-4 : tie.Need-returns-4
 returns-4 c =
     let link = c .before .before in
-    let entry = link .before .before .before .before in
-    page-missing _ _ _ _ _ _ _ (entry .if1 .left) (link .before .linkable .ensures) (not-false _ (link .if3 .left)) (c .before .is-held .ensures)
+    let element = link .before .before .before .before in
+    page-missing _ _ _ _ _ _ _ (element .if1 .left) (link .before .linkable .ensures) (not-false _ (link .if3 .left)) (c .before .is-held .ensures)
     (not-true _ (c .if4 .taken))
 
 rem-run-before : tie.Need-rem-run-before
@@ -70,12 +70,12 @@ returns-5 c =
     let held = c .before .before in
     let link = held .before .before in
     let size = link .before .before .before in
-    let entry = size .before in
-    let a = entry .before .before .before .before .args in
+    let element = size .before in
+    let a = element .before .before .before .before .args in
     let some : 0 < a .size = omega (arith, size .if2 .left) in
     let place = getD (a .list .now) (a .i) 0 in
     let count = c .before .run-before .ensures ∙ ap (λ (page : ℕ). runBefore (a .size) (a .list .now) page (a .i)) (first-page place (a .size) some) in
-    row-read _ _ _ _ _ _ _ (entry .if1 .left) (link .before .linkable .ensures) (not-false _ (link .if3 .left)) (held .before .is-held .ensures)
+    row-read _ _ _ _ _ _ _ (element .if1 .left) (link .before .linkable .ensures) (not-false _ (link .if3 .left)) (held .before .is-held .ensures)
     (not-false _ (held .if4 .left)) count (c .find-on .ensures)
 
 pub find-spec : {M : Type 1} → statement M
