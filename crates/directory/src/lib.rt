@@ -6,7 +6,7 @@ ghost use lib.ListN.{take};
 ghost use Rattle.directory.specs.Header.{type, allowedPage, allowedTables, hasType, typeTwice, tablesHold, headerHolds};
 ghost use Rattle.directory.specs.Directory.{pointerIn, noPointer, kept, fileDirectory, noDirectory, readHeader};
 ghost use Rattle.directory.specs.Chain.{pointerAmong, linkedChain, chainIn, chainReplyOf};
-ghost use Rattle.directory.specs.Private.{pointerReplyOf};
+ghost use Rattle.directory.specs.Private.{pointerReplyOf, TypesIn, withType};
 use format::Block;
 use format::Page;
 use refusal::Refusal;
@@ -117,15 +117,37 @@ fn has_type(block: &[u8], n: u32, t: u32) -> bool
     false
 }
 
+// The word with the bit of type t set; only a type below 64 has one.
+fn with_type(word: u64, t: u32) -> u64
+    ensures { λ r. ⌜ r ≡ withType word t ⌝ }
+{
+    if t < 64 { word | (1u64 << t) } else { word }
+}
+
+// Whether one of the first n pointers has type t, where the word has a bit for each of their types below 64.
+fn has_type_in(block: &[u8], n: u32, word: u64, t: u32) -> bool
+    requires { ⌜ TypesIn (now block) n word ⌝ }
+    ensures { λ r. ⌜ r ≡ hasType (now (block .entry)) n t ⌝ }
+{
+    if t < 64 {
+        (word >> t) % 2 == 1
+    } else {
+        has_type(block, n, t)
+    }
+}
+
 // Whether two of the first n pointers have one type.
 fn has_type_twice(block: &[u8], n: u32) -> bool
     ensures { λ r. ⌜ r ≡ typeTwice (now (block .entry)) n ⌝ }
 {
+    let mut seen: u64 = 0;
     let mut i: u32 = 0;
     while i < n {
-        if has_type(block, i, type_at(block, i)) {
+        let t = type_at(block, i);
+        if has_type_in(block, i, seen, t) {
             return true;
         }
+        seen = with_type(seen, t);
         i += 1;
     }
     false

@@ -1,13 +1,14 @@
 -- Laws of `anyFrom`: one number at a time, as a loop goes, and all at once.
 --     any-here, any-next, any-end     what is left from i, where the test holds at i, where it does not, and where nothing is left
 --     any-at, any-none, any-not       one number passes the test; none does
+--     any-last                        a run with one number more at its end
 --     any-agree                       two tests that agree on the run
 --     Looking, look-..                the invariant of a loop that looks for such a number
 use mathlib.Core.Path.{_≡_, refl, sym, _∙_}
-use mathlib.Core.Bool.{Bool, true, false, false≢true}
+use mathlib.Core.Bool.{Bool, true, false, _||_, or-false, or-assoc, false≢true}
 use mathlib.Core.Logic.{⊎-elim}
 use Prim.Native.Nat.{ℕ, zero, suc, _+_, _-_, _<_, _≤_}
-use native.Mathlib.Nat.{eq-or-lt-of-le, sub-zero}
+use native.Mathlib.Nat.{eq-or-lt-of-le, sub-zero, add-zero}
 use native.Mathlib.Omega.{arith}
 use Rattle.lists.specs.Any.{anyFrom}
 use Rattle.lists.proofs.Choice.{on, or-left, or-right, left-step}
@@ -39,6 +40,14 @@ module _ (test : ℕ → Bool) where
 
   pub any-not : (k i j : ℕ) → anyFrom test k i ≡ false → i ≤ j → j < i + k → test j ≡ false
   any-not k i j e h l = on (test j) (λ f. absurd (false≢true (sym e ∙ any-at k i j h l f))) (λ f. f)
+
+  pub any-last : (k i : ℕ) → anyFrom test (k + 1) i ≡ (anyFrom test k i || test (i + k))
+  unfolding anyFrom
+  any-last zero i = rw add-zero (or-false (test i))
+  any-last (suc k) i =
+      let more : suc k + 1 ≡ suc (k + 1) = omega arith in
+      let end : i + 1 + k ≡ i + suc k = omega arith in
+      rw (more, any-last k (i + 1), end, or-assoc (test i) (anyFrom test k (i + 1)) (test (i + suc k)))
 
 pub any-agree : (p q : ℕ → Bool) (k i : ℕ) → ((j : ℕ) → i ≤ j → j < i + k → p j ≡ q j) → anyFrom p k i ≡ anyFrom q k i
 unfolding anyFrom
