@@ -24,7 +24,8 @@ fn written(name: &str, bytes: &[u8]) -> PathBuf {
 
 #[test]
 fn the_stored_export_is_the_generated_one() {
-    assert_eq!(fs::read(stored_export()).expect("a file"), generate::demo());
+    let stored = fs::read(stored_export()).expect("a file");
+    assert!(stored == generate::demo(), "`export` writes another file");
 }
 
 #[test]

@@ -110,7 +110,7 @@ pub(super) fn chain(table: Table, rows: Vec<Row>, options: &Options, rng: &mut R
             entry.gap = 0;
         }
         page.push(entry);
-        if rng.chance(options.repeated, 100) {
+        if options.repeated > 0 && rng.chance(options.repeated, 100) {
             page.name_again(options, rng);
         }
     }
