@@ -11,6 +11,7 @@ ghost use Rattle.directory.specs.Chain.{chainIn};
 ghost use Rattle.chain.specs.Tally.{tally, walkedOf};
 ghost use Rattle.chain.specs.Chain.{chainPlaces};
 ghost use Rattle.chain.specs.Found.{thenFound};
+ghost use Rattle.listed.specs.Listed.{listedOf};
 ghost use Rattle.export.specs.Asked.{askedTable, askedSlot};
 ghost use Rattle.export.specs.Walk.{pageSize, tableWalk};
 ghost use Rattle.export.specs.Rows.{settleRows, askRows, rowsOf};
@@ -232,6 +233,21 @@ fn find_row(len: u64, image: &[u8], map: &[u64], table: Table, k: usize) -> RowR
     }
 }
 
+// The reply about a row that an element of a list names, on a page of size bytes.
+fn listed_reply(found: Listed, size: u32) -> RowReply
+    ensures { λ r. ⌜ rowReplyOf r ≡ thenFound (listedOf found) (rowAt size) ⌝ }
+{
+    match found {
+        Listed::At(place) => RowReply::Found { place, size },
+        Listed::Waiting(page) => RowReply::Waiting {
+            page,
+            rows: 0,
+            pages: 0,
+        },
+        Listed::Refused(refusal) => RowReply::Refused(refusal),
+    }
+}
+
 // The row that element i of a list names. Of block 0 the header is read, and of the rest one page.
 fn find_listed(
     len: u64,
@@ -257,16 +273,10 @@ fn find_listed(
         return RowReply::Refused(Refusal::FileHeader);
     }
     let size = number::u32_at(block, 0x04);
-    let found = listed::find(size, len / (size as u64), table, image, map, list, i);
-    match found {
-        Listed::At(place) => RowReply::Found { place, size },
-        Listed::Waiting(page) => RowReply::Waiting {
-            page,
-            rows: 0,
-            pages: 0,
-        },
-        Listed::Refused(refusal) => RowReply::Refused(refusal),
-    }
+    listed_reply(
+        listed::find(size, len / (size as u64), table, image, map, list, i),
+        size,
+    )
 }
 
 // The record of a row that was looked for.

@@ -52,59 +52,22 @@ div-find c =
 find-requires : tie.Need-find-requires
 find-requires c κs = search needs
 
-enum-known-found : tie.Need-enum-known-found
-enum-known-found c = search needs
-
-enum-known-found-2 : tie.Need-enum-known-found-2
-enum-known-found-2 c = search needs
-
-enum-known-found-3 : tie.Need-enum-known-found-3
-enum-known-found-3 c = search needs
+listed-reply-requires : tie.Need-listed-reply-requires
+listed-reply-requires c κs = search needs
 
 returns-3 : tie.Need-returns-3
 returns-3 c =
-    let find = c .before .before .before in
-    let size = find .before in
+    let size = c .before .before in
     let header = size .before in
     let block = header .before .before in
     let test = block .before in
     let a = test .before .before .before .before .before .args in
-    let m = memory (a .image .now) (a .map .now) in
     let held = sym (test .before .has-bit .ensures) ∙ not-false _ (test .if1 .left) in
     let holds = rw (block .first-block .ensures) at (header .before .header-holds .ensures) in
     let read = size .u32-at .ensures ∙ ap (λ (b : Bytes). len-page b) (block .first-block .ensures) in
-    element-read (a .len) m (a .list .now) (a .i) (a .table) held holds (not-false _ (header .if2 .left)) read
-    (rw (c .before .found .given .1) at (find .find .ensures))
-
-returns-4 : tie.Need-returns-4
-returns-4 c =
-    let find = c .before .before .before in
-    let size = find .before in
-    let header = size .before in
-    let block = header .before .before in
-    let test = block .before in
-    let a = test .before .before .before .before .before .args in
-    let m = memory (a .image .now) (a .map .now) in
-    let held = sym (test .before .has-bit .ensures) ∙ not-false _ (test .if1 .left) in
-    let holds = rw (block .first-block .ensures) at (header .before .header-holds .ensures) in
-    let read = size .u32-at .ensures ∙ ap (λ (b : Bytes). len-page b) (block .first-block .ensures) in
-    element-read (a .len) m (a .list .now) (a .i) (a .table) held holds (not-false _ (header .if2 .left)) read
-    (rw (c .before .found2 .given .1) at (find .find .ensures))
-
-returns-5 : tie.Need-returns-5
-returns-5 c =
-    let find = c .before .before .before in
-    let size = find .before in
-    let header = size .before in
-    let block = header .before .before in
-    let test = block .before in
-    let a = test .before .before .before .before .before .args in
-    let m = memory (a .image .now) (a .map .now) in
-    let held = sym (test .before .has-bit .ensures) ∙ not-false _ (test .if1 .left) in
-    let holds = rw (block .first-block .ensures) at (header .before .header-holds .ensures) in
-    let read = size .u32-at .ensures ∙ ap (λ (b : Bytes). len-page b) (block .first-block .ensures) in
-    element-read (a .len) m (a .list .now) (a .i) (a .table) held holds (not-false _ (header .if2 .left)) read
-    (rw (c .before .found3 .given .1) at (find .find .ensures))
+    c .listed-reply .ensures
+    ∙ element-read (a .len) (memory (a .image .now) (a .map .now)) (a .list .now) (a .i) (a .table) held holds (not-false _ (header .if2 .left)) read
+    (c .before .find .ensures)
 
 pub find-listed-spec : {M : Type 1} → statement M
 find-listed-spec =
@@ -119,9 +82,5 @@ find-listed-spec =
     cast-find
     div-find
     find-requires
-    enum-known-found
-    enum-known-found-2
-    enum-known-found-3
-    returns-3
-    returns-4
-    returns-5)
+    listed-reply-requires
+    returns-3)
