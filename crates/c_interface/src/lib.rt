@@ -1,211 +1,16 @@
 // The C interface: opening, delivery, the three questions and reading from a list, over numbers and slices. Each function
-// returns a code and writes the answer's values to the front of the result, as many as it takes.
+// makes one call of the library and replies to its answer (crate c_replies).
 ghost use mathlib.Core.Path.{_≡_};
-ghost use mathlib.Core.List.{[], _∷_};
-ghost use Rattle.lists.specs.Write.{written};
-ghost use Rattle.refusal.specs.Fault.{faultOf};
-ghost use Rattle.refusal.specs.Answer.{refused};
-ghost use Rattle.row.specs.Record.{trackOf, recordOf};
-ghost use Rattle.intake.specs.Open.{openedOf, opening};
+ghost use Rattle.intake.specs.Open.{opening};
 ghost use Rattle.intake.specs.Memory.{memory};
-ghost use Rattle.intake.specs.Deliver.{deliveredOf, delivery};
-ghost use Rattle.chain.specs.Tally.{walkedOf};
+ghost use Rattle.intake.specs.Deliver.{delivery};
 ghost use Rattle.export.specs.Rows.{askRows};
-ghost use Rattle.export.specs.Record.{askRecord, recordReplyOf};
-ghost use Rattle.export.specs.Text.{askText, textReplyOf};
+ghost use Rattle.export.specs.Record.{askRecord};
+ghost use Rattle.export.specs.Text.{askText};
 ghost use Rattle.export.specs.FromList.{askRecordIn, askTextIn};
-ghost use Rattle.c_interface.specs.Code.{done};
-ghost use Rattle.c_interface.specs.Reply.{reply, replyTo, Replied};
-ghost use Rattle.c_interface.specs.Replies.{openReply, deliverReply, waitReply, walkReply, recordReply, encodingNumber, textReply};
-use chain::Walked;
-use export::RecordReply;
-use export::TextReply;
-use intake::Delivered;
+ghost use Rattle.c_replies.specs.Reply.{replyTo, Replied};
+ghost use Rattle.c_replies.specs.Replies.{openReply, deliverReply, walkReply, recordReply, textReply};
 use intake::Intake;
-use intake::Opened;
-use refusal::Refusal;
-use row::Record;
-use row::Track;
-use text::Encoding;
-
-// Open, New, Full, Found.
-const DONE: u32 = 0;
-
-const SAME: u32 = 64;
-
-const WAITING: u32 = 65;
-
-// Writes the values to the front of the result, as many as it takes, and returns the code.
-fn put(code: u32, values: &[u64], result: &mut [u64]) -> u32
-    ensures { λ r. ⌜ Replied (reply code (now (values .entry))) r (now (result .entry)) (now (result .exit)) ⌝ }
-{
-    let mut i = 0;
-    while i < values.len() {
-        if result.len() <= i {
-            return code;
-        }
-        result[i] = values[i];
-        i += 1;
-    }
-    code
-}
-
-// The reply to a refusal: its number, and what it carries.
-fn refuse(refusal: Refusal, result: &mut [u64]) -> u32
-    ensures { λ r. ⌜ Replied (reply (faultOf refusal .number) (faultOf refusal .carries ∷ [])) r (now (result .entry)) (now (result .exit)) ⌝ }
-{
-    let fault = refusal.fault();
-    put(fault.number, &[fault.carries], result)
-}
-
-// The reply of a question that waits for a page.
-fn wait(page: u32, rows: usize, pages: u64, result: &mut [u64]) -> u32
-    ensures { λ r. ⌜ Replied (waitReply page rows pages) r (now (result .entry)) (now (result .exit)) ⌝ }
-{
-    put(WAITING, &[rows as u64, pages, page as u64], result)
-}
-
-fn reply_opened(answer: Opened, result: &mut [u64]) -> u32
-    ensures { λ r. ⌜ Replied (replyTo openReply (openedOf answer)) r (now (result .entry)) (now (result .exit)) ⌝ }
-{
-    match answer {
-        Opened::Open { intake: _, blocks } => put(DONE, &[blocks], result),
-        Opened::Refused(refusal) => refuse(refusal, result),
-    }
-}
-
-fn reply_delivered(answer: Delivered, result: &mut [u64]) -> u32
-    ensures { λ r. ⌜ Replied (replyTo deliverReply (deliveredOf answer)) r (now (result .entry)) (now (result .exit)) ⌝ }
-{
-    match answer {
-        Delivered::New(count) => put(DONE, &[count], result),
-        Delivered::Same(count) => put(SAME, &[count], result),
-        Delivered::Refused(refusal) => refuse(refusal, result),
-    }
-}
-
-fn reply_walked(answer: Walked, result: &mut [u64]) -> u32
-    ensures { λ r. ⌜ Replied (replyTo walkReply (walkedOf answer)) r (now (result .entry)) (now (result .exit)) ⌝ }
-{
-    match answer {
-        Walked::Full { rows, pages } => put(DONE, &[rows as u64, pages], result),
-        Walked::Waiting { page, rows, pages } => wait(page, rows, pages, result),
-        Walked::Refused(refusal) => refuse(refusal, result),
-    }
-}
-
-// The reply with a track's numbers, in the order of their offsets.
-fn put_track(track: Track, result: &mut [u64]) -> u32
-    ensures { λ r. ⌜ Replied (reply done (trackOf track)) r (now (result .entry)) (now (result .exit)) ⌝ }
-{
-    let numbers = [
-        track.sample_rate as u64,
-        track.composer_id as u64,
-        track.file_size as u64,
-        track.artwork_id as u64,
-        track.key_id as u64,
-        track.original_artist_id as u64,
-        track.label_id as u64,
-        track.remixer_id as u64,
-        track.bitrate as u64,
-        track.track_number as u64,
-        track.tempo as u64,
-        track.genre_id as u64,
-        track.album_id as u64,
-        track.artist_id as u64,
-        track.id as u64,
-        track.disc_number as u64,
-        track.play_count as u64,
-        track.year as u64,
-        track.sample_depth as u64,
-        track.duration as u64,
-        track.color_id as u64,
-        track.rating as u64,
-    ];
-    put(DONE, &numbers, result)
-}
-
-fn put_id(id: u32, result: &mut [u64]) -> u32
-    ensures { λ r. ⌜ Replied (reply done (id ∷ [])) r (now (result .entry)) (now (result .exit)) ⌝ }
-{
-    put(DONE, &[id as u64], result)
-}
-
-fn put_record(record: Record, result: &mut [u64]) -> u32
-    ensures { λ r. ⌜ Replied (reply done (recordOf «record» .numbers)) r (now (result .entry)) (now (result .exit)) ⌝ }
-{
-    match record {
-        Record::Track(track) => put_track(track, result),
-        Record::Genre { id } => put_id(id, result),
-        Record::Artist { id } => put_id(id, result),
-        Record::Album { artist_id, id } => put(DONE, &[artist_id as u64, id as u64], result),
-        Record::Label { id } => put_id(id, result),
-        Record::Key { id } => put_id(id, result),
-        Record::Color { id } => put_id(id as u32, result),
-        Record::PlaylistNode {
-            parent_id,
-            sort_order,
-            id,
-            raw_is_folder,
-        } => put(
-            DONE,
-            &[
-                parent_id as u64,
-                sort_order as u64,
-                id as u64,
-                raw_is_folder as u64,
-            ],
-            result,
-        ),
-        Record::PlaylistEntry {
-            entry_index,
-            track_id,
-            playlist_id,
-        } => put(
-            DONE,
-            &[entry_index as u64, track_id as u64, playlist_id as u64],
-            result,
-        ),
-        Record::Artwork { id } => put_id(id, result),
-    }
-}
-
-fn reply_record(answer: RecordReply, result: &mut [u64]) -> u32
-    ensures { λ r. ⌜ Replied (replyTo recordReply (recordReplyOf answer)) r (now (result .entry)) (now (result .exit)) ⌝ }
-{
-    match answer {
-        RecordReply::Found(found) => put_record(found, result),
-        RecordReply::Waiting { page, rows, pages } => wait(page, rows, pages, result),
-        RecordReply::Refused(refusal) => refuse(refusal, result),
-    }
-}
-
-fn encoding_number(encoding: Encoding) -> u64
-    ensures { λ r. ⌜ r ≡ encodingNumber encoding ⌝ }
-{
-    match encoding {
-        Encoding::Ascii => 0,
-        Encoding::Utf16 => 1,
-    }
-}
-
-fn reply_text(answer: TextReply, result: &mut [u64]) -> u32
-    ensures { λ r. ⌜ Replied (replyTo textReply (textReplyOf answer)) r (now (result .entry)) (now (result .exit)) ⌝ }
-{
-    match answer {
-        TextReply::Found {
-            place,
-            len,
-            encoding,
-        } => put(
-            DONE,
-            &[place as u64, len as u64, encoding_number(encoding)],
-            result,
-        ),
-        TextReply::Waiting { page, rows, pages } => wait(page, rows, pages, result),
-        TextReply::Refused(refusal) => refuse(refusal, result),
-    }
-}
 
 // Opens an intake for a file of len bytes.
 #[no_mangle]
@@ -214,7 +19,7 @@ pub extern "C" fn sarvoltig_open(len: u64, image: &[u8], map: &mut [u64], result
         (now (result .entry)) (now (result .exit)) ⌝ }
     ensures { λ _. ⌜ now (map .exit) ≡ opening len (now (image .entry)) (now (map .entry)) .map ⌝ }
 {
-    reply_opened(intake::open(len, image, map), result)
+    c_replies::reply_opened(intake::open(len, image, map), result)
 }
 
 // Delivers a block to an intake of a file of len bytes.
@@ -232,7 +37,7 @@ pub extern "C" fn sarvoltig_deliver(
     ensures { λ _. ⌜ memory (now (image .exit)) (now (map .exit)) ≡
         delivery len (memory (now (image .entry)) (now (map .entry))) block (now (piece .entry)) .memory ⌝ }
 {
-    reply_delivered(
+    c_replies::reply_delivered(
         intake::deliver(Intake::new(len), image, map, block, piece),
         result,
     )
@@ -252,7 +57,7 @@ pub extern "C" fn sarvoltig_rows(
         (now (result .entry)) (now (result .exit)) ⌝ }
     ensures { λ _. ⌜ now (list .exit) ≡ askRows len (memory (now (image .entry)) (now (map .entry))) table (now (list .entry)) .list ⌝ }
 {
-    reply_walked(
+    c_replies::reply_walked(
         export::rows(Intake::new(len), image, map, table, list),
         result,
     )
@@ -271,7 +76,7 @@ pub extern "C" fn sarvoltig_record(
     ensures { λ r. ⌜ Replied (replyTo recordReply (askRecord len (memory (now (image .entry)) (now (map .entry))) table k)) r
         (now (result .entry)) (now (result .exit)) ⌝ }
 {
-    reply_record(
+    c_replies::reply_record(
         export::record(Intake::new(len), image, map, table, k as usize),
         result,
     )
@@ -291,7 +96,7 @@ pub extern "C" fn sarvoltig_record_in(
     ensures { λ r. ⌜ Replied (replyTo recordReply (askRecordIn len (memory (now (image .entry)) (now (map .entry))) table (now (list .entry)) i)) r
         (now (result .entry)) (now (result .exit)) ⌝ }
 {
-    reply_record(
+    c_replies::reply_record(
         export::record_in(Intake::new(len), image, map, table, list, i as usize),
         result,
     )
@@ -311,7 +116,7 @@ pub extern "C" fn sarvoltig_text(
     ensures { λ r. ⌜ Replied (replyTo textReply (askText len (memory (now (image .entry)) (now (map .entry))) table k slot)) r
         (now (result .entry)) (now (result .exit)) ⌝ }
 {
-    reply_text(
+    c_replies::reply_text(
         export::text(
             Intake::new(len),
             image,
@@ -339,7 +144,7 @@ pub extern "C" fn sarvoltig_text_in(
     ensures { λ r. ⌜ Replied (replyTo textReply (askTextIn len (memory (now (image .entry)) (now (map .entry))) table (now (list .entry)) i slot)) r
         (now (result .entry)) (now (result .exit)) ⌝ }
 {
-    reply_text(
+    c_replies::reply_text(
         export::text_in(
             Intake::new(len),
             image,

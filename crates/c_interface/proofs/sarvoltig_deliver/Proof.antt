@@ -2,8 +2,8 @@
 use mathlib.Core.Path.{ap}
 use borrow.Author.Needs.{needs}
 use Rattle.intake.specs.Deliver.{Outcome}
-use Rattle.c_interface.specs.Reply.{replyTo}
-use Rattle.c_interface.specs.Replies.{deliverReply}
+use Rattle.c_replies.specs.Reply.{replyTo}
+use Rattle.c_replies.specs.Replies.{deliverReply}
 use Rattle.c_interface.proofs.ReplyCarriesOver.{replied}
 use Rattle.c_interface.proofs.sarvoltig_deliver.Statement.{statement}
 use Rattle.c_interface.proofs.sarvoltig_deliver.Tie as tie

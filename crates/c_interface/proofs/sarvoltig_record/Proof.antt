@@ -1,7 +1,7 @@
 -- `sarvoltig_record` meets its contract: `export::record` gives the answer, and `reply_record` its code and values.
 use borrow.Author.Needs.{needs}
-use Rattle.c_interface.specs.Reply.{replyTo}
-use Rattle.c_interface.specs.Replies.{recordReply}
+use Rattle.c_replies.specs.Reply.{replyTo}
+use Rattle.c_replies.specs.Replies.{recordReply}
 use Rattle.c_interface.proofs.ReplyCarriesOver.{replied}
 use Rattle.c_interface.proofs.sarvoltig_record.Statement.{statement}
 use Rattle.c_interface.proofs.sarvoltig_record.Tie as tie

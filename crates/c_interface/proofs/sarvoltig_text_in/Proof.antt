@@ -1,7 +1,7 @@
 -- `sarvoltig_text_in` meets its contract: `export::text_in` gives the answer, and `reply_text` its code and values.
 use borrow.Author.Needs.{needs}
-use Rattle.c_interface.specs.Reply.{replyTo}
-use Rattle.c_interface.specs.Replies.{textReply}
+use Rattle.c_replies.specs.Reply.{replyTo}
+use Rattle.c_replies.specs.Replies.{textReply}
 use Rattle.c_interface.proofs.ReplyCarriesOver.{replied}
 use Rattle.c_interface.proofs.sarvoltig_text_in.Statement.{statement}
 use Rattle.c_interface.proofs.sarvoltig_text_in.Tie as tie

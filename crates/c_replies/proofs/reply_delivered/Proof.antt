@@ -1,7 +1,7 @@
--- `c_interface::reply_delivered` meets its contract: each arm is a case of `deliverReply` or a refusal.
+-- `c_replies::reply_delivered` meets its contract: each arm is a case of `deliverReply` or a refusal.
 use borrow.Author.Needs.{needs}
-use Rattle.c_interface.proofs.reply_delivered.Statement.{statement}
-use Rattle.c_interface.proofs.reply_delivered.Tie as tie
+use Rattle.c_replies.proofs.reply_delivered.Statement.{statement}
+use Rattle.c_replies.proofs.reply_delivered.Tie as tie
 
 enum-known-answer : tie.Need-enum-known-answer
 enum-known-answer c = search needs

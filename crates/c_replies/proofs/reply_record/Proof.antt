@@ -1,7 +1,7 @@
--- `c_interface::reply_record` meets its contract: each arm is a case of `recordReply` or a refusal.
+-- `c_replies::reply_record` meets its contract: each arm is a case of `recordReply` or a refusal.
 use borrow.Author.Needs.{needs}
-use Rattle.c_interface.proofs.reply_record.Statement.{statement}
-use Rattle.c_interface.proofs.reply_record.Tie as tie
+use Rattle.c_replies.proofs.reply_record.Statement.{statement}
+use Rattle.c_replies.proofs.reply_record.Tie as tie
 
 enum-known-answer : tie.Need-enum-known-answer
 enum-known-answer c = search needs

@@ -1,7 +1,7 @@
--- `c_interface::put_record` meets its contract: each arm is a case of `recordOf` (crate `row`).
+-- `c_replies::put_record` meets its contract: each arm is a case of `recordOf` (crate `row`).
 use borrow.Author.Needs.{needs}
-use Rattle.c_interface.proofs.put_record.Statement.{statement}
-use Rattle.c_interface.proofs.put_record.Tie as tie
+use Rattle.c_replies.proofs.put_record.Statement.{statement}
+use Rattle.c_replies.proofs.put_record.Tie as tie
 
 enum-known-record : tie.Need-enum-known-record
 enum-known-record c = search needs

@@ -1,10 +1,13 @@
--- `c_interface::reply_walked` meets its contract: each arm is a case of `walkReply` or a refusal.
+-- `c_replies::reply_text` meets its contract: each arm is a case of `textReply` or a refusal.
 use borrow.Author.Needs.{needs}
-use Rattle.c_interface.proofs.reply_walked.Statement.{statement}
-use Rattle.c_interface.proofs.reply_walked.Tie as tie
+use Rattle.c_replies.proofs.reply_text.Statement.{statement}
+use Rattle.c_replies.proofs.reply_text.Tie as tie
 
 enum-known-answer : tie.Need-enum-known-answer
 enum-known-answer c = search needs
+
+encoding-number-requires : tie.Need-encoding-number-requires
+encoding-number-requires c κs = search needs
 
 slice-aggregate-put : tie.Need-slice-aggregate-put
 slice-aggregate-put c = search needs
@@ -28,7 +31,9 @@ same-length : tie.Need-same-length
 same-length c = search needs
 
 returns : tie.Need-returns
-returns c = rw (c .before .before .before .before .before .before .answer .given .1) (c .before .before .put .ensures)
+returns c =
+    let told = c .before .before .before .before .before in
+    rw (told .before .before .answer .given .1, ← told .encoding-number .ensures) (c .before .before .put .ensures)
 
 same-length-2 : tie.Need-same-length-2
 same-length-2 c = search needs
@@ -42,11 +47,12 @@ same-length-3 c = search needs
 returns-3 : tie.Need-returns-3
 returns-3 c = rw (c .before .before .before .before .before .answer3 .given .1) (c .before .before .refuse .ensures)
 
-pub reply-walked-spec : {M : Type 1} → statement M
-reply-walked-spec =
+pub reply-text-spec : {M : Type 1} → statement M
+reply-text-spec =
     tie.close
     (tie.spec
     enum-known-answer
+    encoding-number-requires
     slice-aggregate-put
     put-requires
     enum-known-answer-2

@@ -1,7 +1,7 @@
--- `c_interface::refuse` meets its contract: the refusal's number is the code, and what it carries the value.
+-- `c_replies::refuse` meets its contract: the refusal's number is the code, and what it carries the value.
 use borrow.Author.Needs.{needs}
-use Rattle.c_interface.proofs.refuse.Statement.{statement}
-use Rattle.c_interface.proofs.refuse.Tie as tie
+use Rattle.c_replies.proofs.refuse.Statement.{statement}
+use Rattle.c_replies.proofs.refuse.Tie as tie
 
 fault-requires : tie.Need-fault-requires
 fault-requires c κs = search needs

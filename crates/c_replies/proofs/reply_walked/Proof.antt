@@ -1,7 +1,7 @@
--- `c_interface::reply_opened` meets its contract: each arm is a case of `openReply` or a refusal.
+-- `c_replies::reply_walked` meets its contract: each arm is a case of `walkReply` or a refusal.
 use borrow.Author.Needs.{needs}
-use Rattle.c_interface.proofs.reply_opened.Statement.{statement}
-use Rattle.c_interface.proofs.reply_opened.Tie as tie
+use Rattle.c_replies.proofs.reply_walked.Statement.{statement}
+use Rattle.c_replies.proofs.reply_walked.Tie as tie
 
 enum-known-answer : tie.Need-enum-known-answer
 enum-known-answer c = search needs
@@ -14,6 +14,12 @@ put-requires c κs = search needs
 
 enum-known-answer-2 : tie.Need-enum-known-answer-2
 enum-known-answer-2 c = search needs
+
+wait-requires : tie.Need-wait-requires
+wait-requires c κs = search needs
+
+enum-known-answer-3 : tie.Need-enum-known-answer-3
+enum-known-answer-3 c = search needs
 
 refuse-requires : tie.Need-refuse-requires
 refuse-requires c κs = search needs
@@ -28,18 +34,28 @@ same-length-2 : tie.Need-same-length-2
 same-length-2 c = search needs
 
 returns-2 : tie.Need-returns-2
-returns-2 c = rw (c .before .before .before .before .before .answer2 .given .1) (c .before .before .refuse .ensures)
+returns-2 c = rw (c .before .before .before .before .before .answer2 .given .1) (c .before .before .wait .ensures)
 
-pub reply-opened-spec : {M : Type 1} → statement M
-reply-opened-spec =
+same-length-3 : tie.Need-same-length-3
+same-length-3 c = search needs
+
+returns-3 : tie.Need-returns-3
+returns-3 c = rw (c .before .before .before .before .before .answer3 .given .1) (c .before .before .refuse .ensures)
+
+pub reply-walked-spec : {M : Type 1} → statement M
+reply-walked-spec =
     tie.close
     (tie.spec
     enum-known-answer
     slice-aggregate-put
     put-requires
     enum-known-answer-2
+    wait-requires
+    enum-known-answer-3
     refuse-requires
     same-length
     returns
     same-length-2
-    returns-2)
+    returns-2
+    same-length-3
+    returns-3)

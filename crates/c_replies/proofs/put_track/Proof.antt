@@ -1,8 +1,8 @@
--- `c_interface::put_track` meets its contract: each number of a track fits 64 bits.
+-- `c_replies::put_track` meets its contract: each number of a track fits 64 bits.
 use native.Mathlib.Omega.{arith}
 use borrow.Author.Needs.{needs}
-use Rattle.c_interface.proofs.put_track.Statement.{statement}
-use Rattle.c_interface.proofs.put_track.Tie as tie
+use Rattle.c_replies.proofs.put_track.Statement.{statement}
+use Rattle.c_replies.proofs.put_track.Tie as tie
 
 cast-t4 : tie.Need-cast-t4
 cast-t4 c = record { fits = omega (arith, c .struct-known .given) }
