@@ -12,8 +12,8 @@ use Rattle.table.specs.declared.Table.{Table}
 use Rattle.table.specs.Table.{slotCount}
 use Rattle.intake.specs.Check.{checkLengths, checkCall}
 use Rattle.intake.specs.Memory.{Memory, memory}
-use Rattle.export.specs.Asked.{askedTable, withSlot, askedSlot}
-use Rattle.export.specs.Walk.{tableWalk}
+use Rattle.table_walk.specs.Asked.{askedTable, withSlot, askedSlot}
+use Rattle.table_walk.specs.Walk.{tableWalk}
 use Rattle.export.specs.Rows.{settleRows, askRows}
 use Rattle.export.specs.Record.{recordIn, askRecord}
 use Rattle.export.specs.Text.{textIn, askText}
@@ -22,7 +22,7 @@ use Rattle.depend.specs.Bytes.{relevantIn, relevant}
 use Rattle.depend.specs.Depend.{answerOn, DecidedBy, SameRows, EveryQuestion}
 use Rattle.lists.proofs.Choice.{on}
 use Rattle.number.proofs.NumberAgree.{agree-less}
-use Rattle.export.proofs.AskedTable.{asked-sound}
+use Rattle.table_walk.proofs.AskedTable.{asked-sound}
 use Rattle.depend.proofs.WalkAgree.{walk-agree}
 use Rattle.depend.proofs.FoundRowAgree.{record-row, text-row}
 use Rattle.depend.proofs.RelevantHeld.{relevant-held}

@@ -27,12 +27,12 @@ use Rattle.directory.proofs.GoodHeader.{good-header}
 use Rattle.chain.specs.Held.{pageHeld}
 use Rattle.chain.proofs.Linkable.{inside-both}
 use Rattle.listed.specs.Rank.{pageOf, rank}
-use Rattle.export.specs.Asked.{askedTable, withSlot}
-use Rattle.export.specs.Walk.{pageSize}
+use Rattle.table_walk.specs.Asked.{askedTable, withSlot}
+use Rattle.table_walk.specs.Walk.{pageSize}
 use Rattle.export.specs.FromList.{recordListed, askRecordIn, textListed, askTextIn}
-use Rattle.export.proofs.AskedTable.{asked-sound}
-use Rattle.export.proofs.SameBlocks.{same-more}
-use Rattle.export.proofs.PageWalked.{PageWalked}
+use Rattle.table_walk.proofs.AskedTable.{asked-sound}
+use Rattle.table_walk.proofs.SameBlocks.{same-more}
+use Rattle.table_walk.proofs.PageWalked.{PageWalked}
 use Rattle.run.specs.Call.{row, text}
 use Rattle.run.proofs.ListKept.{record-in-same, text-in-same}
 use Rattle.depend.specs.Bytes.{pageAt, pageWith, firstBlockByte}

@@ -30,8 +30,8 @@ use Rattle.chain.specs.Held.{blockMissing, pageHeld}
 use Rattle.chain.specs.File.{pagePart, pageNext}
 use Rattle.chain.specs.Reads.{comesTo, goesOn, reads, readsFrom}
 use Rattle.listed.specs.Rank.{runBefore, rank}
-use Rattle.export.specs.Asked.{askedTable}
-use Rattle.export.specs.Reads.{tableReads}
+use Rattle.table_walk.specs.Asked.{askedTable}
+use Rattle.table_walk.specs.Reads.{tableReads}
 use Rattle.depend.specs.Bytes.{walkedByte, firstBlockByte, tableByte, relevant}
 use Rattle.depend.specs.Unread.{inPresentRow, inAbsentRow, absentRow, unreadByte, unreadFor}
 use Rattle.depend.specs.ListBytes.{elementReads, elementByte, listByte}

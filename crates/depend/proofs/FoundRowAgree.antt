@@ -13,7 +13,7 @@ use Rattle.page.specs.Read.{beforeIndex, rowStarts}
 use Rattle.intake.specs.Private.{Sound}
 use Rattle.intake.specs.Memory.{Memory, memory}
 use Rattle.chain.specs.File.{pagePart}
-use Rattle.export.specs.Walk.{pageSize, tableWalk}
+use Rattle.table_walk.specs.Walk.{pageSize, tableWalk}
 use Rattle.chain.specs.Found.{Found, found}
 use Rattle.export.specs.Row.{settleRow, rowPart}
 use Rattle.export.specs.Record.{recordAt}
@@ -22,7 +22,7 @@ use Rattle.depend.specs.Bytes.{tableByte}
 use Rattle.lists.proofs.Each.{each-member}
 use Rattle.row.proofs.RowAgree.{record-agree, slot-agree}
 use Rattle.page.proofs.PageAgree.{RowAgree, parts-same}
-use Rattle.export.proofs.EachFound.{found-of}
+use Rattle.table_walk.proofs.EachFound.{found-of}
 use Rattle.export.proofs.FoundRow.{FoundRow, rows-found}
 use Rattle.export.proofs.Questions.{settle-same}
 use Rattle.depend.proofs.WalkAgree.{table-size, page-agree, walk-agree}

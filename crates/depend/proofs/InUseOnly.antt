@@ -9,14 +9,14 @@ use Rattle.table.specs.Table.{tableOf}
 use Rattle.intake.specs.Check.{checkCall}
 use Rattle.intake.specs.Memory.{Memory}
 use Rattle.intake.specs.InUse.{SameInUse}
-use Rattle.export.specs.Asked.{askedTable}
+use Rattle.table_walk.specs.Asked.{askedTable}
 use Rattle.export.specs.Rows.{askRows}
 use Rattle.export.specs.Record.{askRecord}
 use Rattle.export.specs.Text.{askText}
 use Rattle.run.specs.Call.{Question, allRows, oneRecord, oneText, answer}
 use Rattle.intake.proofs.RulesPassed.{call-refused}
 use Rattle.intake.proofs.PastInUse.{bit-agree, block-agree, call-agree}
-use Rattle.export.proofs.SameBlocks.{SameBlocks}
+use Rattle.table_walk.proofs.SameBlocks.{SameBlocks}
 use Rattle.run.proofs.Demand.{answer-same}
 
 -- what refusals 1 to 4 answer

@@ -34,7 +34,7 @@ use Rattle.chain.proofs.Linkable.{both-inside}
 use Rattle.chain.proofs.PagePart.{page-of, start-of}
 use Rattle.listed.specs.Rank.{pageOf, rank}
 use Rattle.listed.specs.Listed.{listedPlace}
-use Rattle.export.specs.Walk.{pageSize}
+use Rattle.table_walk.specs.Walk.{pageSize}
 use Rattle.export.specs.Row.{rowPart}
 use Rattle.export.specs.Record.{recordAt}
 use Rattle.export.specs.Text.{textFound, textOn, textAt}

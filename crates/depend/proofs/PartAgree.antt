@@ -19,7 +19,7 @@ use Rattle.directory.specs.Bytes.{directoryByte}
 use Rattle.directory.proofs.HeaderAgree.{size-agree}
 use Rattle.chain.specs.File.{pagePart}
 use Rattle.chain.proofs.PagePart.{part-short}
-use Rattle.export.specs.Walk.{pageSize}
+use Rattle.table_walk.specs.Walk.{pageSize}
 use Rattle.depend.specs.Bytes.{firstBlockByte}
 
 module _ {test : ℕ → Bool} {s t : Bytes} (a : Agree test s t) where

@@ -1,5 +1,5 @@
 -- Rule 7.9: a byte that is relevant for a question stands in a block that is held: `relevant-held`.
--- Rests on what is known of the pages that a walk reads (export: PageWalked).
+-- Rests on what is known of the pages that a walk reads (table_walk: PageWalked).
 use mathlib.Core.Path.{_≡_, refl}
 use mathlib.Core.Bool.{true, false≢true}
 use Prim.Native.Nat.{ℕ, _+_, _*_, _/_, _%_, _<_}
@@ -20,18 +20,18 @@ use Rattle.intake.specs.Memory.{Memory, blockAt}
 use Rattle.directory.specs.Header.{num-tables, pointerAt, allowedTables}
 use Rattle.directory.specs.Bytes.{directoryByte}
 use Rattle.chain.specs.Held.{blocksInPage}
-use Rattle.export.specs.Asked.{askedTable, withSlot}
-use Rattle.export.specs.Walk.{pageSize}
-use Rattle.export.specs.Reads.{tableReads}
+use Rattle.table_walk.specs.Asked.{askedTable, withSlot}
+use Rattle.table_walk.specs.Walk.{pageSize}
+use Rattle.table_walk.specs.Reads.{tableReads}
 use Rattle.run.specs.Call.{Question, allRows, oneRecord, oneText}
 use Rattle.depend.specs.Bytes.{pageAt, pageWith, walkedByte, firstBlockByte, tableByte, relevantIn, relevant}
 use Rattle.depend.specs.Unread.{heldByte}
 use Rattle.lists.proofs.Choice.{on, both-true}
 use Rattle.number.proofs.NumberAgree.{within-both}
 use Rattle.directory.proofs.GoodHeader.{good-header}
-use Rattle.export.proofs.SameBlocks.{some-block, page-room, page-blocks, held-bit}
-use Rattle.export.proofs.AskedTable.{asked-sound}
-use Rattle.export.proofs.PageWalked.{PageWalked, page-walked}
+use Rattle.table_walk.proofs.SameBlocks.{some-block, page-room, page-blocks, held-bit}
+use Rattle.table_walk.proofs.AskedTable.{asked-sound}
+use Rattle.table_walk.proofs.PageWalked.{PageWalked, page-walked}
 
 -- the header fields and at most 30 pointers stand in block 0
 pub directory-low : (block : Bytes) (i : ℕ) → directoryByte block i ≡ true → i < blockSize

@@ -20,8 +20,8 @@ use Rattle.page.specs.Read.{beforeIndex}
 use Rattle.page.specs.Bytes.{headerByte, rowByteAt, indexByte, entryByte, entriesByte, pageByte}
 use Rattle.intake.specs.Memory.{Memory, blockAt}
 use Rattle.directory.specs.Bytes.{directoryByte}
-use Rattle.export.specs.Walk.{pageSize}
-use Rattle.export.specs.Reads.{tableReads}
+use Rattle.table_walk.specs.Walk.{pageSize}
+use Rattle.table_walk.specs.Reads.{tableReads}
 use Rattle.run.specs.Call.{Question}
 use Rattle.depend.specs.Bytes.{pageAt, pageWith, walkedByte, firstBlockByte, tableByte, walkedTable, relevantIn, relevant}
 use Rattle.depend.specs.Unread.{inPresentRow, inAbsentRow, absentRow, unreadByte, unreadIn, unreadFor}
@@ -30,7 +30,7 @@ use Rattle.lists.proofs.Any.{any-none, any-not}
 use Rattle.number.proofs.NumberAgree.{within-false}
 use Rattle.page.proofs.EntriesInside.{entry-room}
 use Rattle.directory.proofs.GoodHeader.{good-header}
-use Rattle.export.proofs.PageWalked.{page-walked}
+use Rattle.table_walk.proofs.PageWalked.{page-walked}
 use Rattle.depend.proofs.RelevantHeld.{directory-low}
 
 module _ (table : Table) (page : Bytes) (i : ℕ) (rows : heapStart ≤ i) (index : i < length page - indexSize (entries page)) where

@@ -14,8 +14,8 @@ use Rattle.bitmap.specs.Bit.{bit}
 use Rattle.intake.specs.Memory.{Memory, memory, blockAt}
 use Rattle.directory.specs.Chain.{tableChain}
 use Rattle.chain.specs.File.{pagePart}
-use Rattle.export.specs.Walk.{pageSize, tableWalk}
-use Rattle.export.specs.Reads.{tableReads}
+use Rattle.table_walk.specs.Walk.{pageSize, tableWalk}
+use Rattle.table_walk.specs.Reads.{tableReads}
 use Rattle.depend.specs.Bytes.{walkedByte, firstBlockByte, tableByte}
 use Rattle.lists.proofs.Choice.{cond-agree, or-left, or-right}
 use Rattle.number.proofs.NumberAgree.{agree-less}
@@ -23,7 +23,7 @@ use Rattle.directory.proofs.HeaderAgree.{chain-agree}
 use Rattle.directory.proofs.ChainAnswer.{chain-given}
 use Rattle.chain.proofs.PagePart.{page-of, start-of}
 use Rattle.chain.proofs.FileAgree.{PageAgrees, chain-walk-agree}
-use Rattle.export.proofs.PageWalked.{reads-table}
+use Rattle.table_walk.proofs.PageWalked.{reads-table}
 use Rattle.depend.proofs.PartAgree.{part-agree, block-agree, size-same}
 
 module _ (len : ℕ) (map : Words) (s t : Bytes) (table : Table) (a : Agree (tableByte len (memory s map) table) s t) where

@@ -10,9 +10,9 @@ use Rattle.bitmap.specs.Bit.{bit}
 use Rattle.intake.specs.Memory.{Memory, blockAt}
 use Rattle.directory.specs.Bytes.{directoryByte}
 use Rattle.chain.specs.File.{pagePart}
-use Rattle.export.specs.Asked.{askedTable, askedSlot}
-use Rattle.export.specs.Walk.{pageSize}
-use Rattle.export.specs.Reads.{tableReads}
+use Rattle.table_walk.specs.Asked.{askedTable, askedSlot}
+use Rattle.table_walk.specs.Walk.{pageSize}
+use Rattle.table_walk.specs.Reads.{tableReads}
 use Rattle.run.specs.Call.{Question, allRows, oneRecord, oneText}
 
 -- the number of the page where byte i of the image stands, and that page's bytes

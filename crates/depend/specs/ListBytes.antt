@@ -14,8 +14,8 @@ use Rattle.intake.specs.Memory.{Memory, blockAt}
 use Rattle.directory.specs.Header.{headerHolds}
 use Rattle.chain.specs.Held.{pageHeld}
 use Rattle.listed.specs.Rank.{pageOf, rank}
-use Rattle.export.specs.Asked.{askedTable, askedSlot}
-use Rattle.export.specs.Walk.{pageSize}
+use Rattle.table_walk.specs.Asked.{askedTable, askedSlot}
+use Rattle.table_walk.specs.Walk.{pageSize}
 use Rattle.run.specs.Call.{CallReply, row, text}
 use Rattle.export.specs.FromList.{askRecordIn, askTextIn}
 use Rattle.depend.specs.Bytes.{pageAt, pageWith, firstBlockByte}

@@ -15,8 +15,8 @@ use Rattle.page.specs.Read.{beforeIndex}
 use Rattle.page.specs.Bytes.{rowByteAt}
 use Rattle.bitmap.specs.Bit.{bit}
 use Rattle.intake.specs.Memory.{Memory}
-use Rattle.export.specs.Walk.{pageSize}
-use Rattle.export.specs.Reads.{tableReads}
+use Rattle.table_walk.specs.Walk.{pageSize}
+use Rattle.table_walk.specs.Reads.{tableReads}
 use Rattle.run.specs.Call.{Question}
 use Rattle.depend.specs.Bytes.{pageAt, pageWith, firstBlockByte, walkedTable}
 

@@ -23,8 +23,8 @@ use Rattle.intake.specs.Private.{Sound}
 use Rattle.intake.specs.Memory.{Memory, blockAt}
 use Rattle.directory.specs.Header.{len-page}
 use Rattle.chain.specs.File.{pagePart, filePages}
-use Rattle.export.specs.Walk.{pageSize, tableWalk}
-use Rattle.export.specs.Reads.{tableReads}
+use Rattle.table_walk.specs.Walk.{pageSize, tableWalk}
+use Rattle.table_walk.specs.Reads.{tableReads}
 use Rattle.export.specs.Row.{rowPart}
 use Rattle.lists.proofs.Each.{Each}
 use Rattle.lists.proofs.Member.{member-first, member-more}
@@ -34,10 +34,10 @@ use Rattle.page.proofs.PageAnswer.{GoodPage, page-read, rows-good}
 use Rattle.intake.proofs.RulesPassed.{sound-accepted}
 use Rattle.directory.proofs.ChainAnswer.{chain-given}
 use Rattle.chain.proofs.PagePart.{page-of, start-of}
-use Rattle.export.proofs.SameBlocks.{MoreBlocks, first-same, part-length, part-same}
-use Rattle.export.proofs.TableWalk.{table-walk-holds}
-use Rattle.export.proofs.PageWalked.{PageWalked, reads-table, page-walked}
-use Rattle.export.proofs.EachFound.{EachFound, found-each}
+use Rattle.table_walk.proofs.SameBlocks.{MoreBlocks, first-same, part-length, part-same}
+use Rattle.table_walk.proofs.TableWalk.{table-walk-holds}
+use Rattle.table_walk.proofs.PageWalked.{PageWalked, reads-table, page-walked}
+use Rattle.table_walk.proofs.EachFound.{EachFound, found-each}
 
 -- what holds of the place of each good start holds of each place
 each-place : (P Q : ℕ → Type 0) (start : ℕ) (starts : Places) → ((s : ℕ) → isMember s starts ≡ true → Q s → P (start + s)) → Each Q starts

@@ -32,11 +32,11 @@ use Rattle.listed.specs.Rank.{pageOf, runBefore, rank}
 use Rattle.listed.specs.Listed.{readElement, listedPlace}
 use Rattle.listed.proofs.RunsInRows.{run-front}
 use Rattle.listed.proofs.RowsRanked.{RowThere, RowsThere, rows-there}
-use Rattle.export.specs.Walk.{pageSize, tableWalk}
+use Rattle.table_walk.specs.Walk.{pageSize, tableWalk}
 use Rattle.export.specs.Row.{rowPart}
 use Rattle.export.specs.FromList.{tableListed}
-use Rattle.export.proofs.TableWalk.{table-walk-holds}
-use Rattle.export.proofs.PageWalked.{PageWalked}
+use Rattle.table_walk.proofs.TableWalk.{table-walk-holds}
+use Rattle.table_walk.proofs.PageWalked.{PageWalked}
 use Rattle.export.proofs.FoundRow.{FoundRow}
 use Rattle.export.proofs.TablePlaces.{allowed-file}
 

@@ -13,7 +13,7 @@ use Rattle.intake.specs.Memory.{Memory, blockAt}
 use Rattle.directory.specs.Header.{headerHolds}
 use Rattle.chain.specs.Found.{Found, found, waiting, thenFound}
 use Rattle.listed.specs.Listed.{listedPlace}
-use Rattle.export.specs.Walk.{pageSize}
+use Rattle.table_walk.specs.Walk.{pageSize}
 use Rattle.export.specs.FromList.{tableListed}
 use Rattle.export.specs.Private.{RowPlace, rowPlace, rowAt}
 

@@ -28,7 +28,7 @@ use Rattle.intake.specs.Private.{Sound}
 use Rattle.intake.specs.Memory.{Memory}
 use Rattle.chain.specs.Walk.{Progress, Walk, full, waiting}
 use Rattle.export.specs.OwnFault.{OwnFault}
-use Rattle.export.specs.Walk.{pageSize, tableWalk}
+use Rattle.table_walk.specs.Walk.{pageSize, tableWalk}
 use Rattle.export.specs.Rows.{rowsOutcome, rowsAnswer, settleRows, askRows}
 use Rattle.chain.specs.Found as row
 use Rattle.export.specs.Row.{settleRow, rowPart}
@@ -36,10 +36,10 @@ use Rattle.export.specs.Record.{recordAt, recordIn, askRecord}
 use Rattle.export.specs.Text.{textFound, textAt, textIn, askText}
 use Rattle.lists.proofs.Choice.{on, never, cond-agree}
 use Rattle.lists.proofs.Each.{Each, each-at}
-use Rattle.export.proofs.AskedTable.{sound-asked}
-use Rattle.export.proofs.SameBlocks.{SameBlocks, MoreBlocks, same-more}
-use Rattle.export.proofs.TableWalk.{table-walk-same}
-use Rattle.export.proofs.EachFound.{EachFound, found-of}
+use Rattle.table_walk.proofs.AskedTable.{sound-asked}
+use Rattle.table_walk.proofs.SameBlocks.{SameBlocks, MoreBlocks, same-more}
+use Rattle.table_walk.proofs.TableWalk.{table-walk-same}
+use Rattle.table_walk.proofs.EachFound.{EachFound, found-of}
 use Rattle.export.proofs.FoundRow.{FoundRow, rows-found, row-read-same, row-text}
 
 -- a question that refusals 1 to 4 do not apply to

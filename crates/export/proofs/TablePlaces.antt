@@ -33,11 +33,11 @@ use Rattle.chain.specs.Tally.{tally}
 use Rattle.chain.specs.Along.{rowsAlong}
 use Rattle.chain.specs.File.{placesAlong}
 use Rattle.chain.specs.Chain.{chainPlaces}
-use Rattle.export.specs.Walk.{pageSize, tableWalk}
+use Rattle.table_walk.specs.Walk.{pageSize, tableWalk, walkDirectory}
 use Rattle.export.specs.Rows.{rowsOutcome, rowsCounted, settleRows}
 use Rattle.export.specs.Row.{settleRow}
 use Rattle.chain.specs.Found.{Found}
-use Rattle.export.specs.Private.{walkDirectory, RowPlace, rowAt, atPlace}
+use Rattle.export.specs.Private.{RowPlace, rowAt, atPlace}
 use Rattle.lists.proofs.Choice.{on, never, both-true}
 use Rattle.intake.proofs.RulesPassed.{sound-accepted}
 use Rattle.directory.proofs.ChainAnswer.{FileChain, chain-given}

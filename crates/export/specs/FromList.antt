@@ -12,8 +12,8 @@ use Rattle.intake.specs.Memory.{Memory, blockAt}
 use Rattle.directory.specs.Header.{headerHolds}
 use Rattle.chain.specs.Found.{Found, waiting, thenFound}
 use Rattle.listed.specs.Listed.{listedPlace}
-use Rattle.export.specs.Asked.{askedTable, withSlot}
-use Rattle.export.specs.Walk.{pageSize}
+use Rattle.table_walk.specs.Asked.{askedTable, withSlot}
+use Rattle.table_walk.specs.Walk.{pageSize}
 use Rattle.export.specs.Record.{recordAt}
 use Rattle.export.specs.Text.{TextPlace, textAt}
 

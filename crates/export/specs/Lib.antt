@@ -1,7 +1,4 @@
 pub mod OwnFault
-pub mod Asked
-pub mod Walk
-pub mod Reads
 pub mod Rows
 pub mod Row
 pub mod Record

@@ -1,24 +1,15 @@
 -- Definitions that only the contracts of private functions and the proofs cite.
-use mathlib.Core.Bool.{cond}
 use Prim.Native.Nat.{ℕ}
 use Rattle.lists.specs.Alias.{Bytes}
 use Rattle.refusal.specs.Fault.{fault, faultOf}
 use Rattle.refusal.specs.Answer.{Answer, given, refused}
 use Rattle.table.specs.declared.Table.{Table}
 use Rattle.row.specs.Record.{RowRecord, readRecord}
-use Rattle.bitmap.specs.Bit.{bit}
-use Rattle.intake.specs.Memory.{Memory, blockAt}
-use Rattle.directory.specs.declared.Directory.{Directory}
-use Rattle.directory.specs.Directory.{noDirectory, readHeader}
 use Rattle.lists.specs.Nth.{Nth, element, past}
 use Rattle.export.specs.declared.RowReply.{RowReply}
 use Rattle.export.specs.declared.RowReply.the-variants.{Found, Waiting, Refused}
 use Rattle.chain.specs.Found as row
 use Rattle.export.specs.Row.{rowPart}
-
--- the directory that a walk goes by
-unfoldable pub walkDirectory : ℕ → Memory → Directory
-walkDirectory len m = cond (bit (m .map) 0) (readHeader len (blockAt (m .image) 0) .directory) noDirectory
 
 -- where a row is, and the size of its page
 pub record RowPlace : Type 0 where

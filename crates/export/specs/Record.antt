@@ -7,8 +7,8 @@ use Rattle.row.specs.Record.{RowRecord, readRecord, recordOf}
 use Rattle.intake.specs.Memory.{Memory}
 use Rattle.export.specs.declared.RecordReply.{RecordReply}
 use Rattle.export.specs.declared.RecordReply.the-variants.{Found, Waiting, Refused}
-use Rattle.export.specs.Asked.{askedTable}
-use Rattle.export.specs.Walk.{pageSize, tableWalk}
+use Rattle.table_walk.specs.Asked.{askedTable}
+use Rattle.table_walk.specs.Walk.{pageSize, tableWalk}
 use Rattle.chain.specs.Found as row
 use Rattle.export.specs.Row.{settleRow, rowPart}
 

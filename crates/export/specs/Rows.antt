@@ -11,8 +11,8 @@ use Rattle.intake.specs.Memory.{Memory}
 use Rattle.chain.specs.declared.Walked.{Walked}
 use Rattle.chain.specs.Walk.{Progress, Walk, full, waiting}
 use Rattle.chain.specs.Tally.{tally, walkedOf}
-use Rattle.export.specs.Asked.{askedTable}
-use Rattle.export.specs.Walk.{tableWalk}
+use Rattle.table_walk.specs.Asked.{askedTable}
+use Rattle.table_walk.specs.Walk.{tableWalk}
 
 pub record RowsOutcome : Type 0 where
   pub answer : Walk ℕ

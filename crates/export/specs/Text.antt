@@ -11,8 +11,8 @@ use Rattle.page.specs.Read.{onPage}
 use Rattle.intake.specs.Memory.{Memory}
 use Rattle.export.specs.declared.TextReply.{TextReply}
 use Rattle.export.specs.declared.TextReply.the-variants.{Found, Waiting, Refused}
-use Rattle.export.specs.Asked.{askedTable, withSlot}
-use Rattle.export.specs.Walk.{pageSize, tableWalk}
+use Rattle.table_walk.specs.Asked.{askedTable, withSlot}
+use Rattle.table_walk.specs.Walk.{pageSize, tableWalk}
 use Rattle.chain.specs.Found as row
 use Rattle.export.specs.Row.{settleRow, rowPart}
 

@@ -4,27 +4,22 @@ ghost use mathlib.Core.Path.{_≡_};
 ghost use mathlib.Core.Option.{none};
 ghost use Prim.Native.Nat.{_/_};
 ghost use Rattle.lists.specs.Nth.{nth};
-ghost use Rattle.table.specs.Table.{tableReplyOf};
-ghost use Rattle.intake.specs.Memory.{memory, blockAt};
+ghost use Rattle.intake.specs.Memory.{memory};
 ghost use Rattle.intake.specs.Private.{Sound};
 ghost use Rattle.directory.specs.Chain.{chainIn};
-ghost use Rattle.chain.specs.Tally.{tally, walkedOf};
 ghost use Rattle.chain.specs.Chain.{chainPlaces};
 ghost use Rattle.chain.specs.Found.{thenFound};
 ghost use Rattle.listed.specs.Listed.{listedOf};
-ghost use Rattle.export.specs.Asked.{askedTable, askedSlot};
-ghost use Rattle.export.specs.Walk.{pageSize, tableWalk};
+ghost use Rattle.table_walk.specs.Walk.{pageSize, tableWalk};
 ghost use Rattle.export.specs.Rows.{settleRows, askRows, rowsOf};
 ghost use Rattle.export.specs.Row.{settleRow, rowPart};
 ghost use Rattle.export.specs.Record.{askRecord, recordReplyOf};
 ghost use Rattle.export.specs.Text.{textOn, askText, textReplyOf};
 ghost use Rattle.export.specs.FromList.{tableListed, askRecordIn, askTextIn};
-ghost use Rattle.export.specs.Private.{walkDirectory, rowAt, atPlace, rowReplyOf, recordOn};
+ghost use Rattle.export.specs.Private.{rowAt, atPlace, rowReplyOf, recordOn};
 use chain::Place;
 use chain::Walked;
 use directory::Directory;
-use format::Block;
-use intake::Checked;
 use intake::Intake;
 use listed::Listed;
 use refusal::Refusal;
@@ -33,12 +28,6 @@ use table::Table;
 use table::TableReply;
 use text::Encoding;
 use text::Text;
-
-// What the walk for a table answers, and the directory that it went by.
-struct TableWalked {
-    walked: Walked,
-    directory: Directory,
-}
 
 // Where row k of a table is, and the size of its page; or why it has no place.
 enum RowReply {
@@ -69,79 +58,13 @@ pub enum TextReply {
     Refused(Refusal),
 }
 
-// The table asked for, past refusals 1 to 4 and 8.
-fn asked(intake: Intake, image: &[u8], map: &[u64], number: u32) -> TableReply
-    ensures { λ r. ⌜ tableReplyOf r ≡ askedTable (intake .len) (memory (now (image .entry)) (now (map .entry))) number ⌝ }
-{
-    let checked = intake::check(intake, image, map);
-    match checked {
-        Checked::Refused(refusal) => TableReply::Refused(refusal),
-        Checked::Sound => Table::new(number),
-    }
-}
-
-// The table of a question for a string, past refusal 19 too.
-fn asked_slot(intake: Intake, image: &[u8], map: &[u64], number: u32, slot: usize) -> TableReply
-    ensures { λ r. ⌜ tableReplyOf r ≡ askedSlot (intake .len) (memory (now (image .entry)) (now (map .entry))) number slot ⌝ }
-{
-    let found = asked(intake, image, map, number);
-    match found {
-        TableReply::Refused(refusal) => TableReply::Refused(refusal),
-        TableReply::Known(table) => {
-            if table.slots() <= slot {
-                return TableReply::Refused(Refusal::NoSlot);
-            }
-            TableReply::Known(table)
-        }
-    }
-}
-
-// Block 0, as far as the image has it.
-fn first_block(image: &[u8]) -> &[u8]
-    ensures { λ r. ⌜ now r ≡ blockAt (now (image .entry)) 0 ⌝ }
-{
-    if image.len() < Block::SIZE {
-        return &image[0..];
-    }
-    &image[..Block::SIZE]
-}
-
-// The walk for a table of a file of len bytes. The header is read here, once for a question.
-fn walk_table(len: u64, image: &[u8], map: &[u64], table: Table) -> TableWalked
-    ensures { λ r. ⌜ (walkedOf (r .walked) ≡ tally (tableWalk len (memory (now (image .entry)) (now (map .entry))) table)) ×
-        (r .directory ≡ walkDirectory len (memory (now (image .entry)) (now (map .entry)))) ⌝ }
-{
-    if !bitmap::has_bit(map, 0) {
-        let directory = Directory::none();
-        return TableWalked {
-            walked: Walked::Waiting {
-                page: 0,
-                rows: 0,
-                pages: 0,
-            },
-            directory,
-        };
-    }
-    let header = Directory::read(first_block(image), len);
-    let directory = header.directory;
-    if header.ok {
-        let walked = chain::walk(directory, table, image, map);
-        TableWalked { walked, directory }
-    } else {
-        TableWalked {
-            walked: Walked::Refused(Refusal::FileHeader),
-            directory,
-        }
-    }
-}
-
 // The answer to a question for all rows of a table, with the places written.
 fn rows_of(len: u64, image: &[u8], map: &[u64], table: Table, list: &mut [u32]) -> Walked
     requires { ⌜ Sound len (memory (now image) (now map)) ⌝ }
     ensures { λ r. ⌜ rowsOf r (now (list .exit)) ≡
         settleRows (now (list .entry)) (tableWalk len (memory (now (image .entry)) (now (map .entry))) table) ⌝ }
 {
-    let walk = walk_table(len, image, map, table);
+    let walk = table_walk::walk_table(len, image, map, table);
     let directory = walk.directory;
     let walked = walk.walked;
     match walked {
@@ -168,7 +91,7 @@ pub fn rows(intake: Intake, image: &[u8], map: &[u64], number: u32, list: &mut [
     ensures { λ r. ⌜ rowsOf r (now (list .exit)) ≡
         askRows (intake .len) (memory (now (image .entry)) (now (map .entry))) number (now (list .entry)) ⌝ }
 {
-    let found = asked(intake, image, map, number);
+    let found = table_walk::asked(intake, image, map, number);
     match found {
         TableReply::Known(table) => {
             let len = intake.len;
@@ -213,7 +136,7 @@ fn find_row(len: u64, image: &[u8], map: &[u64], table: Table, k: usize) -> RowR
     ensures { λ r. ⌜ rowReplyOf r ≡ settleRow (rowAt (pageSize (memory (now (image .entry)) (now (map .entry))))) k
         (tableWalk len (memory (now (image .entry)) (now (map .entry))) table) ⌝ }
 {
-    let walk = walk_table(len, image, map, table);
+    let walk = table_walk::walk_table(len, image, map, table);
     let directory = walk.directory;
     let walked = walk.walked;
     match walked {
@@ -268,7 +191,7 @@ fn find_listed(
             pages: 0,
         };
     }
-    let block = first_block(image);
+    let block = table_walk::first_block(image);
     if !directory::header_holds(block, len) {
         return RowReply::Refused(Refusal::FileHeader);
     }
@@ -296,7 +219,7 @@ fn record_from(table: Table, image: &[u8], found: RowReply) -> RecordReply
 pub fn record(intake: Intake, image: &[u8], map: &[u64], number: u32, k: usize) -> RecordReply
     ensures { λ r. ⌜ recordReplyOf r ≡ askRecord (intake .len) (memory (now (image .entry)) (now (map .entry))) number k ⌝ }
 {
-    let table = asked(intake, image, map, number);
+    let table = table_walk::asked(intake, image, map, number);
     match table {
         TableReply::Known(t) => {
             let len = intake.len;
@@ -318,7 +241,7 @@ pub fn record_in(
     ensures { λ r. ⌜ recordReplyOf r ≡
         askRecordIn (intake .len) (memory (now (image .entry)) (now (map .entry))) number (now (list .entry)) i ⌝ }
 {
-    let table = asked(intake, image, map, number);
+    let table = table_walk::asked(intake, image, map, number);
     match table {
         TableReply::Known(t) => {
             let len = intake.len;
@@ -380,7 +303,7 @@ pub fn text(
 ) -> TextReply
     ensures { λ r. ⌜ textReplyOf r ≡ askText (intake .len) (memory (now (image .entry)) (now (map .entry))) number k slot ⌝ }
 {
-    let table = asked_slot(intake, image, map, number, slot);
+    let table = table_walk::asked_slot(intake, image, map, number, slot);
     match table {
         TableReply::Known(t) => {
             let len = intake.len;
@@ -403,7 +326,7 @@ pub fn text_in(
     ensures { λ r. ⌜ textReplyOf r ≡
         askTextIn (intake .len) (memory (now (image .entry)) (now (map .entry))) number (now (list .entry)) i slot ⌝ }
 {
-    let table = asked_slot(intake, image, map, number, slot);
+    let table = table_walk::asked_slot(intake, image, map, number, slot);
     match table {
         TableReply::Known(t) => {
             let len = intake.len;

@@ -3,7 +3,7 @@
 --     settle-stays                  a row that was found and answered is answered again, unless the walk is refused
 --     earlier-refused, refuses-all  a fault of the file's own is the walk's, and refuses every question on the table
 --     keeps                         all of it
--- Rests on the growth of the walk (export: TableWalk) and on the questions (export: Questions).
+-- Rests on the growth of the walk (table_walk: TableWalk) and on the questions (export: Questions).
 use mathlib.Core.Path.{_≡_, refl, sym, ap, _∙_}
 use mathlib.Core.Bool.{false, cond, not}
 use mathlib.Core.Logic.{_⊎_, inl, inr, ⊎-elim}
@@ -28,7 +28,7 @@ use Rattle.chain.specs.Walk.{Walk, full, waiting}
 use Rattle.chain.specs.Begins.{Begins}
 use Rattle.chain.proofs.WalkGrows.{BeginsWith, Grows}
 use Rattle.export.specs.OwnFault.{OwnFault}
-use Rattle.export.specs.Walk.{tableWalk}
+use Rattle.table_walk.specs.Walk.{tableWalk}
 use Rattle.export.specs.Rows.{RowsOutcome, settleRows, askRows}
 use Rattle.chain.specs.Found as row
 use Rattle.chain.specs.Found.{Found, found}
@@ -41,9 +41,10 @@ use Rattle.run.specs.Refusal.{faultInReply, tableAsked}
 use Rattle.run.specs.Later.{RefusedByFile, StaysAnswered, Keeps}
 use Rattle.lists.proofs.Choice.{on, never}
 use Rattle.lists.proofs.Each.{Each, each-at}
-use Rattle.export.proofs.SameBlocks.{MoreBlocks}
-use Rattle.export.proofs.TableWalk.{table-walk-grows, table-walk-own}
-use Rattle.export.proofs.EachFound.{EachFound}
+use Rattle.table_walk.proofs.SameBlocks.{MoreBlocks}
+use Rattle.table_walk.proofs.TableWalk.{table-walk-grows}
+use Rattle.export.proofs.WalkFaults.{table-walk-own}
+use Rattle.table_walk.proofs.EachFound.{EachFound}
 use Rattle.export.proofs.Questions.{rows-asked, record-asked, text-asked, records-found-same, texts-found-same}
 use Rattle.export.proofs.Questions.{TableRefused, own-rows, own-record, own-text, refused-rows, refused-record, refused-text}
 

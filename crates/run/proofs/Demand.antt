@@ -16,7 +16,7 @@ use Rattle.run.specs.Demand.{Demand, EveryRun}
 use Rattle.run.specs.FromList.{EveryRunKeepsLists}
 use Rattle.intake.proofs.RulesPassed.{Accepted}
 use Rattle.intake.proofs.OpenClears.{opens, opening-accepted}
-use Rattle.export.proofs.SameBlocks.{SameBlocks, MoreBlocks}
+use Rattle.table_walk.proofs.SameBlocks.{SameBlocks, MoreBlocks}
 use Rattle.export.proofs.Questions.{ask-rows-same, ask-record-same, ask-text-same}
 use Rattle.run.proofs.RunHolds.{run-holds, run-sound, run-alike}
 use Rattle.run.proofs.CallsAppend.{received-append, received-last, calls-last, calls-keep}

@@ -21,7 +21,7 @@ use Rattle.run.specs.File.{orZeros, receivedFile, wholeFile, IsWhole}
 use Rattle.lists.proofs.Choice.{never}
 use Rattle.intake.proofs.RulesPassed.{Accepted}
 use Rattle.intake.proofs.BlockBytes.{block-length}
-use Rattle.export.proofs.SameBlocks.{SameBlocks, MoreBlocks}
+use Rattle.table_walk.proofs.SameBlocks.{SameBlocks, MoreBlocks}
 use Rattle.run.proofs.FileMemory.{marked-bit, Sized, order-block}
 
 has-some : (o : Option (List ℕ)) → has o ≡ true → (piece : List ℕ) × (o ≡ some piece)

@@ -29,14 +29,14 @@ use Rattle.chain.specs.File.{pagePart}
 use Rattle.chain.proofs.Linkable.{inside-both}
 use Rattle.listed.specs.Rank.{pageOf}
 use Rattle.listed.specs.Listed.{listedPlace}
-use Rattle.export.specs.Asked.{askedTable}
-use Rattle.export.specs.Walk.{pageSize}
+use Rattle.table_walk.specs.Asked.{askedTable}
+use Rattle.table_walk.specs.Walk.{pageSize}
 use Rattle.export.specs.Rows.{askRows}
 use Rattle.export.specs.Record.{recordAt}
 use Rattle.export.specs.Text.{textFound, textAt}
 use Rattle.export.specs.FromList.{tableListed, recordListed, askRecordIn, textListed, askTextIn}
-use Rattle.export.proofs.AskedTable.{sound-asked}
-use Rattle.export.proofs.SameBlocks.{SameBlocks, MoreBlocks, InFile, some-block, first-same, held-same, held-more, part-same}
+use Rattle.table_walk.proofs.AskedTable.{sound-asked}
+use Rattle.table_walk.proofs.SameBlocks.{SameBlocks, MoreBlocks, InFile, some-block, first-same, held-same, held-more, part-same}
 use Rattle.export.proofs.FoundRow.{row-read-same}
 use Rattle.export.proofs.ListedRow.{ListedRow, then-listed}
 use Rattle.run.specs.FromList.{Settled, KeepsLists}

@@ -24,15 +24,15 @@ use Rattle.intake.specs.Memory.{Memory}
 use Rattle.chain.specs.Walk.{Walk, full, waiting}
 use Rattle.chain.specs.Found.{Found, found, thenFound}
 use Rattle.listed.proofs.RowsRanked.{RowThere, RowsThere}
-use Rattle.export.specs.Asked.{askedTable}
-use Rattle.export.specs.Walk.{pageSize, tableWalk}
+use Rattle.table_walk.specs.Asked.{askedTable}
+use Rattle.table_walk.specs.Walk.{pageSize, tableWalk}
 use Rattle.export.specs.Rows.{rowsWritten, rowsAnswer, listAfter, settleRows, askRows}
 use Rattle.export.specs.Row.{settleRow, rowPart}
 use Rattle.export.specs.Record.{recordAt, recordIn, askRecord}
 use Rattle.export.specs.Text.{textFound, textAt, textIn, askText}
 use Rattle.export.specs.FromList.{tableListed, recordListed, askRecordIn, textListed, askTextIn}
-use Rattle.export.proofs.AskedTable.{asked-sound}
-use Rattle.export.proofs.EachFound.{EachFound}
+use Rattle.table_walk.proofs.AskedTable.{asked-sound}
+use Rattle.table_walk.proofs.EachFound.{EachFound}
 use Rattle.export.proofs.FoundRow.{FoundRow, rows-found}
 use Rattle.export.proofs.ListedRow.{rows-ranked, row-listed}
 use Rattle.run.specs.FromList.{EveryList, Settled}

@@ -1,7 +1,7 @@
 -- `export::find_row` meets its contract: what the walk counted says which case of `settleRow` it is (proofs/RowAnswer, TablePlaces).
 use borrow.Author.Needs.{needs}
 use Rattle.intake.specs.Memory.{memory}
-use Rattle.export.specs.Walk.{pageSize, tableWalk}
+use Rattle.table_walk.specs.Walk.{pageSize, tableWalk}
 use Rattle.export.proofs.RowAnswer.{full-none, waiting-none, row-refused}
 use Rattle.export.proofs.TablePlaces.{table-row}
 use Rattle.export.proofs.find_row.Statement.{statement}

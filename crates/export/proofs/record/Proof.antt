@@ -3,10 +3,10 @@ use mathlib.Core.Path.{ap, _∙_}
 use Rattle.refusal.specs.Answer.{Answer}
 use Rattle.intake.specs.Memory.{memory}
 use Rattle.chain.specs.Found.{Found, thenFound}
-use Rattle.export.specs.Walk.{pageSize, tableWalk}
+use Rattle.table_walk.specs.Walk.{pageSize, tableWalk}
 use Rattle.export.specs.Record.{askRecord}
 use Rattle.export.specs.Private.{RowPlace, recordOn}
-use Rattle.export.proofs.AskedTable.{asked-sound}
+use Rattle.table_walk.proofs.AskedTable.{asked-sound}
 use Rattle.export.proofs.RowAnswer.{by-place}
 use borrow.Author.Needs.{needs}
 use Rattle.export.proofs.record.Statement.{statement}

@@ -3,7 +3,7 @@ use mathlib.Core.Path.{ap, _∙_}
 use Rattle.refusal.specs.Answer.{Answer}
 use Rattle.intake.specs.Memory.{memory}
 use Rattle.chain.specs.Found.{Found, thenFound}
-use Rattle.export.specs.Walk.{pageSize}
+use Rattle.table_walk.specs.Walk.{pageSize}
 use Rattle.export.specs.FromList.{tableListed, askRecordIn}
 use Rattle.export.specs.Private.{RowPlace, recordOn}
 use Rattle.export.proofs.ListedStart.{listed-place}

@@ -2,7 +2,7 @@
 use borrow.Author.Needs.{needs}
 use Rattle.intake.specs.Memory.{memory}
 use Rattle.export.specs.Rows.{askRows}
-use Rattle.export.proofs.AskedTable.{asked-sound}
+use Rattle.table_walk.proofs.AskedTable.{asked-sound}
 use Rattle.export.proofs.rows.Statement.{statement}
 use Rattle.export.proofs.rows.Tie as tie
 

@@ -1,7 +1,7 @@
 -- `export::rows_of` meets its contract: what the walk counted says which case of `settleRows` it is (proofs/RowsAnswer, TablePlaces).
 use borrow.Author.Needs.{needs}
 use Rattle.intake.specs.Memory.{memory}
-use Rattle.export.specs.Walk.{tableWalk}
+use Rattle.table_walk.specs.Walk.{tableWalk}
 use Rattle.export.proofs.RowsAnswer.{rows-short, rows-refused}
 use Rattle.export.proofs.TablePlaces.{table-rows}
 use Rattle.export.proofs.rows_of.Statement.{statement}

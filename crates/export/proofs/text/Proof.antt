@@ -3,12 +3,12 @@ use mathlib.Core.Path.{ap, _∙_}
 use Rattle.refusal.specs.Answer.{Answer}
 use Rattle.intake.specs.Memory.{memory}
 use Rattle.chain.specs.Found.{Found, thenFound}
-use Rattle.export.specs.Asked.{askedTable}
-use Rattle.export.specs.Walk.{pageSize, tableWalk}
+use Rattle.table_walk.specs.Asked.{askedTable}
+use Rattle.table_walk.specs.Walk.{pageSize, tableWalk}
 use Rattle.export.specs.Row.{settleRow}
 use Rattle.export.specs.Text.{TextPlace, textOn, textAt, askText}
 use Rattle.export.specs.Private.{RowPlace}
-use Rattle.export.proofs.AskedTable.{slot-sound, slot-then}
+use Rattle.table_walk.proofs.AskedTable.{slot-sound, slot-then}
 use Rattle.export.proofs.RowAnswer.{by-place}
 use borrow.Author.Needs.{needs}
 use Rattle.export.proofs.text.Statement.{statement}

@@ -1,8 +1,8 @@
--- `export::asked_slot` meets its contract: the table chooses the case, and its slots the answer.
+-- `table_walk::asked_slot` meets its contract: the table chooses the case, and its slots the answer.
 use borrow.Author.Tests.{le-ltb, lt-ltb}
 use borrow.Author.Needs.{needs}
-use Rattle.export.proofs.asked_slot.Statement.{statement}
-use Rattle.export.proofs.asked_slot.Tie as tie
+use Rattle.table_walk.proofs.asked_slot.Statement.{statement}
+use Rattle.table_walk.proofs.asked_slot.Tie as tie
 
 asked-requires : tie.Need-asked-requires
 asked-requires c κs = search needs

@@ -2,7 +2,6 @@
 --     table-walk-holds    what holds in each of its cases holds of the walk
 --     table-walk-same     memories with the same held blocks give the same walk
 --     table-walk-grows    with more blocks held, Full and refusals stay, and what Waiting found stays in front
---     table-walk-own      its refusals are the file's own faults (rule 2.24)
 -- Rests on the chain's laws (chain: SameWalk, WalkGrows, ChainPlaces) and on the parts of held pages (proofs/SameBlocks).
 use mathlib.Core.Path.{_≡_, refl, sym, ap, subst, _∙_}
 use mathlib.Core.Bool.{true}
@@ -25,16 +24,14 @@ use Rattle.chain.specs.Walk.{Walk, waiting, walkFrom}
 use Rattle.chain.specs.Held.{pageHeld}
 use Rattle.chain.specs.File.{pagePart, pageNext, filePages}
 use Rattle.chain.specs.Chain.{chainWalk}
-use Rattle.export.specs.OwnFault.{OwnFault}
-use Rattle.export.specs.Walk.{tableWalk}
+use Rattle.table_walk.specs.Walk.{tableWalk}
 use Rattle.lists.proofs.Choice.{on, cond-holds}
 use Rattle.directory.proofs.GoodHeader.{good-header}
 use Rattle.directory.proofs.ChainAnswer.{FileChain, chain-given, chain-refused}
 use Rattle.chain.proofs.Linkable.{inside-both}
 use Rattle.chain.proofs.SameWalk.{walk-from-same}
 use Rattle.chain.proofs.WalkGrows.{Grows, begins-any, walk-from-grows}
-use Rattle.chain.proofs.ChainPlaces.{file-faults}
-use Rattle.export.proofs.SameBlocks.{SameBlocks, MoreBlocks, same-more, InFile, some-block, first-same, held-same, held-more, part-same}
+use Rattle.table_walk.proofs.SameBlocks.{SameBlocks, MoreBlocks, same-more, InFile, some-block, first-same, held-same, held-more, part-same}
 
 -- the walk along a file's chain
 abbrev pub fileWalk : (c : Chain) (table : Table) (m : Memory) → Walk Places
@@ -121,22 +118,3 @@ module _ {len : ℕ} {a b : Memory} (soundA : Sound len a) (soundB : Sound len b
             next = same-next more f;
           })
           (c .«first_page»)
-
--- the walk is refused by the file's own faults only
-abbrev Own : Walk Places → Type 0
-Own (given p) = Unit {0}
-Own (refused f) = OwnFault f
-
-file-own : (c : Chain) (table : Table) (m : Memory) → Own (fileWalk c table m)
-file-own c table m = by (fileWalk c table m) refl
-  where
-    by : (w : Walk Places) → fileWalk c table m ≡ w → Own w
-    by (given p) e = tt
-    by (refused f) e =
-        let numbers = file-faults c table (m .image) (m .map) (c .«first_page») f e in
-        record { least = omega arith; most = omega arith }
-
-pub table-walk-own : (len : ℕ) (m : Memory) (table : Table) (f : Fault) → tableWalk len m table ≡ refused f → OwnFault f
-table-walk-own len m table f e =
-    subst Own e
-    (table-walk-holds len m table Own tt (λ g n. record { least = omega arith; most = omega arith }) (λ c _ _. file-own c table m))

@@ -1,4 +1,4 @@
--- `export::first_block` meets its contract: the part is the image's first 512 bytes, or all of it where it is shorter.
+-- `table_walk::first_block` meets its contract: the part is the image's first 512 bytes, or all of it where it is shorter.
 use mathlib.Core.Path.{sym, _∙_, refl}
 use Prim.Native.Nat.{_-_}
 use native.Mathlib.Omega.{arith}
@@ -6,8 +6,8 @@ use lib.Seq.{take-all, length-take-le}
 use lib.ListN.{length}
 use borrow.Author.Needs.{needs}
 use Rattle.intake.specs.Memory.{blockAt}
-use Rattle.export.proofs.first_block.Statement.{statement}
-use Rattle.export.proofs.first_block.Tie as tie
+use Rattle.table_walk.proofs.first_block.Statement.{statement}
+use Rattle.table_walk.proofs.first_block.Tie as tie
 
 sub-result : tie.Need-sub-result
 sub-result c = search needs

@@ -1,11 +1,11 @@
--- `export::asked` meets its contract: the check's verdict says whether `checkCall` goes on to the table.
+-- `table_walk::asked` meets its contract: the check's verdict says whether `checkCall` goes on to the table.
 use mathlib.Core.Path.{sym, _∙_}
 use borrow.Author.Needs.{needs}
 use Rattle.intake.specs.Memory.{memory}
-use Rattle.export.specs.Asked.{askedTable}
+use Rattle.table_walk.specs.Asked.{askedTable}
 use Rattle.intake.proofs.RulesPassed.{call-refused, call-passes}
-use Rattle.export.proofs.asked.Statement.{statement}
-use Rattle.export.proofs.asked.Tie as tie
+use Rattle.table_walk.proofs.asked.Statement.{statement}
+use Rattle.table_walk.proofs.asked.Tie as tie
 
 check-requires : tie.Need-check-requires
 check-requires c κs = search needs

@@ -17,14 +17,14 @@ use Rattle.chain.specs.Held.{pageHeld}
 use Rattle.chain.specs.File.{filePages}
 use Rattle.chain.specs.Reads.{readsFrom}
 use Rattle.chain.specs.Chain.{chainReads}
-use Rattle.export.specs.Walk.{pageSize}
-use Rattle.export.specs.Reads.{tableReads}
+use Rattle.table_walk.specs.Walk.{pageSize}
+use Rattle.table_walk.specs.Reads.{tableReads}
 use Rattle.lists.proofs.Choice.{both-true}
 use Rattle.directory.proofs.ChainAnswer.{chain-given}
 use Rattle.chain.proofs.Linkable.{inside-both}
 use Rattle.chain.proofs.SameWalk.{reads-held}
-use Rattle.export.proofs.SameBlocks.{InFile}
-use Rattle.export.proofs.TableWalk.{in-file}
+use Rattle.table_walk.proofs.SameBlocks.{InFile}
+use Rattle.table_walk.proofs.TableWalk.{in-file}
 
 pub record PageWalked (len : ℕ) (m : Memory) (number : ℕ) : Type 0 where
   pub first : bit (m .map) 0 ≡ true

@@ -16,8 +16,7 @@ use Rattle.directory.specs.Chain.{chainIn, tableChain}
 use Rattle.chain.specs.Walk.{Walk, waiting}
 use Rattle.chain.specs.Tally.{tally}
 use Rattle.chain.specs.Chain.{chainWalk}
-use Rattle.export.specs.Walk.{tableWalk}
-use Rattle.export.specs.Private.{walkDirectory}
+use Rattle.table_walk.specs.Walk.{tableWalk, walkDirectory}
 use Rattle.lists.proofs.Choice.{on}
 
 module _ (len : ℕ) (m : Memory) (table : Table) where

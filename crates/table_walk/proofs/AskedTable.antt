@@ -10,7 +10,7 @@ use Rattle.table.specs.declared.Table.{Table}
 use Rattle.table.specs.Table.{tableOf, slotCount}
 use Rattle.intake.specs.Private.{Sound}
 use Rattle.intake.specs.Memory.{Memory}
-use Rattle.export.specs.Asked.{askedTable, withSlot, askedSlot}
+use Rattle.table_walk.specs.Asked.{askedTable, withSlot, askedSlot}
 use Rattle.intake.proofs.RulesPassed.{call-given, call-passes}
 use Rattle.lists.proofs.Choice.{on, never}
 

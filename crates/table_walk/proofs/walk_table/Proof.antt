@@ -1,11 +1,11 @@
--- `export::walk_table` meets its contract: block 0's bit and the header choose the case (proofs/WalkStart).
+-- `table_walk::walk_table` meets its contract: block 0's bit and the header choose the case (proofs/WalkStart).
 use borrow.Author.Needs.{needs}
 use mathlib.Core.Path.{sym, _∙_}
 use borrow.Author.Tests.{not-true, not-false}
 use Rattle.intake.specs.Memory.{memory}
-use Rattle.export.proofs.WalkStart.{start-missing, start-broken, start-ready}
-use Rattle.export.proofs.walk_table.Statement.{statement}
-use Rattle.export.proofs.walk_table.Tie as tie
+use Rattle.table_walk.proofs.WalkStart.{start-missing, start-broken, start-ready}
+use Rattle.table_walk.proofs.walk_table.Statement.{statement}
+use Rattle.table_walk.proofs.walk_table.Tie as tie
 
 has-bit-requires : tie.Need-has-bit-requires
 has-bit-requires c κs = search needs

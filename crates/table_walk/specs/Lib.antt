@@ -1,0 +1,3 @@
+pub mod Asked
+pub mod Walk
+pub mod Reads
