@@ -22,13 +22,13 @@ abbrev pub readElement : (size : ℕ) (table : Table) (image : Bytes) (list : Pl
 readElement size table image list i =
     readRow (pageOf size list i) table (pagePart size image (pageOf size list i)) (getD list i 0 % size) (rank size list i)
 
--- the place of the row that element i names, in a file of so many pages of size bytes
+-- Rules 5.29 to 5.31, in this order: the place of the row that element i names, in a file of so many pages of size bytes.
 unfoldable pub listedPlace : (size pageCount : ℕ) (table : Table) (image : Bytes) (map : Words) (list : Places) (i : ℕ) → Answer (Found ℕ)
 listedPlace size pageCount table image map list i =
-    refuseIf (leb (length list) i) (fault 18 0)
-    (refuseIf (not (linkable pageCount (pageOf size list i))) (fault 18 0)
-    (cond (not (pageHeld size map (pageOf size list i))) (given (waiting (pageOf size list i) 0 0))
-    (andThen (readElement size table image list i) (λ _.
+    refuseIf (leb (length list) i) (fault 18 0)  -- 5.29, the list
+    (refuseIf (not (linkable pageCount (pageOf size list i))) (fault 18 0)  -- 5.29, the page
+    (cond (not (pageHeld size map (pageOf size list i))) (given (waiting (pageOf size list i) 0 0))  -- 5.29, its blocks
+    (andThen (readElement size table image list i) (λ _.  -- 5.30, 5.31
     given (found (getD list i 0))))))
 
 -- the answer for each case of the code's enum

@@ -39,8 +39,8 @@ use Rattle.table_walk.proofs.AskedTable.{sound-asked}
 use Rattle.table_walk.proofs.SameBlocks.{SameBlocks, MoreBlocks, InFile, some-block, first-same, held-same, held-more, part-same}
 use Rattle.export.proofs.FoundRow.{row-read-same}
 use Rattle.export.proofs.ListedRow.{ListedRow, then-listed}
-use Rattle.run.specs.FromList.{Settled, KeepsLists}
-use Rattle.run.proofs.ListRead.{list-reads, record-settled, text-settled}
+use Rattle.run.specs.FromList.{NotWaiting, KeepsLists}
+use Rattle.run.proofs.ListRead.{list-reads, record-answered, text-answered}
 
 module _ {len : ℕ} {a b : Memory} (soundA : Sound len a) (soundB : Sound len b) (more : MoreBlocks len a b) where
   module _ (table : Table) (list : Places) (i : ℕ) where
@@ -73,7 +73,7 @@ module _ {len : ℕ} {a b : Memory} (soundA : Sound len a) (soundB : Sound len b
         (λ h. rw (e, both, ← block, h) refl))
         missing
 
-    listed-kept : Settled (tableListed len a list i table) → tableListed len b list i table ≡ tableListed len a list i table
+    listed-kept : NotWaiting (tableListed len a list i table) → tableListed len b list i table ≡ tableListed len a list i table
     unfolding tableListed listedPlace
     listed-kept s = listed-by (λ e. absurd (rw e at s)) (λ e h l k p. absurd (rw (e, h, l, k, p) at s))
 
@@ -92,10 +92,10 @@ module _ {len : ℕ} {a b : Memory} (soundA : Sound len a) (soundB : Sound len b
           sym (held-same same (in-file h k)) ∙ p,
         ) refl)
 
-    then-settled : {B : Type 0} (f : ℕ → Answer (Found B)) (x : Answer (Found ℕ)) → Settled (thenFound x f) → Settled x
-    then-settled f (given (found place)) s = tt
-    then-settled f (given (waiting page rows pages)) s = s
-    then-settled f (refused r) s = tt
+    then-answered : {B : Type 0} (f : ℕ → Answer (Found B)) (x : Answer (Found ℕ)) → NotWaiting (thenFound x f) → NotWaiting x
+    then-answered f (given (found place)) s = tt
+    then-answered f (given (waiting page rows pages)) s = s
+    then-answered f (refused r) s = tt
 
     -- the record and the string, as read in both
     records-same : (place : ℕ) → ListedRow len a table list i place → recordAt a table place ≡ recordAt b table place
@@ -114,32 +114,32 @@ module _ {len : ℕ} {a b : Memory} (soundA : Sound len a) (soundB : Sound len b
         on (ltb slot (slotCount table))
         (λ h. rw (h, e) (sym (then-listed len a table list i (textAt a table slot) (textAt b table slot) (texts-same slot)))) (λ h. rw h refl)
 
-    pub record-kept : Settled (recordListed len a list i table) → recordListed len b list i table ≡ recordListed len a list i table
-    record-kept s = record-by (listed-kept (then-settled (recordAt a table) (tableListed len a list i table) s))
+    pub record-kept : NotWaiting (recordListed len a list i table) → recordListed len b list i table ≡ recordListed len a list i table
+    record-kept s = record-by (listed-kept (then-answered (recordAt a table) (tableListed len a list i table) s))
 
-    pub text-kept : (slot : ℕ) → Settled (textListed len a list i slot table) → textListed len b list i slot table ≡ textListed len a list i slot table
+    pub text-kept : (slot : ℕ) → NotWaiting (textListed len a list i slot table) → textListed len b list i slot table ≡ textListed len a list i slot table
     text-kept slot s =
         on (ltb slot (slotCount table))
-        (λ h. text-by slot (listed-kept (then-settled (textAt a table slot) (tableListed len a list i table) (rw h at s))))
+        (λ h. text-by slot (listed-kept (then-answered (textAt a table slot) (tableListed len a list i table) (rw h at s))))
         (λ h. rw h refl)
 
   -- the table that is asked for
-  asked-kept : {B : Type 0} (number : ℕ) (f g : Table → Answer (Found B)) → ((table : Table) → Settled (f table) → g table ≡ f table)
-      → Settled (andThen (askedTable len a number) f) → andThen (askedTable len b number) g ≡ andThen (askedTable len a number) f
+  asked-kept : {B : Type 0} (number : ℕ) (f g : Table → Answer (Found B)) → ((table : Table) → NotWaiting (f table) → g table ≡ f table)
+      → NotWaiting (andThen (askedTable len a number) f) → andThen (askedTable len b number) g ≡ andThen (askedTable len a number) f
   asked-kept {B} number f g same s =
       rw (sound-asked len b number soundB, sound-asked len a number soundA) (by (tableOf number) (rw (sound-asked len a number soundA) at s))
     where
-      by : (x : Answer Table) → Settled (andThen x f) → andThen x g ≡ andThen x f
+      by : (x : Answer Table) → NotWaiting (andThen x f) → andThen x g ≡ andThen x f
       by (given table) t = same table t
       by (refused r) t = refl
 
-  pub records-kept : (number : ℕ) (list : Places) (i : ℕ) → Settled (askRecordIn len a number list i)
+  pub records-kept : (number : ℕ) (list : Places) (i : ℕ) → NotWaiting (askRecordIn len a number list i)
       → askRecordIn len b number list i ≡ askRecordIn len a number list i
   unfolding askRecordIn
   records-kept number list i =
       asked-kept number (recordListed len a list i) (recordListed len b list i) (λ table. record-kept table list i)
 
-  pub texts-kept : (number : ℕ) (list : Places) (i slot : ℕ) → Settled (askTextIn len a number list i slot)
+  pub texts-kept : (number : ℕ) (list : Places) (i slot : ℕ) → NotWaiting (askTextIn len a number list i slot)
       → askTextIn len b number list i slot ≡ askTextIn len a number list i slot
   unfolding askTextIn
   texts-kept number list i slot =
@@ -173,9 +173,9 @@ module _ {len : ℕ} {a b : Memory} (soundA : Sound len a) (soundB : Sound len b
         rows = λ number list. record {
           records = λ i h.
               let read = list-reads len a number list .records i h in
-              records-kept number (askRows len a number list .list) i (rw read (record-settled len a number list i h)) ∙ read;
+              records-kept number (askRows len a number list .list) i (rw read (record-answered len a number list i h)) ∙ read;
           texts = λ i slot h.
               let read = list-reads len a number list .texts i slot h in
-              texts-kept number (askRows len a number list .list) i slot (rw read (text-settled len a number list i slot h)) ∙ read;
+              texts-kept number (askRows len a number list .list) i slot (rw read (text-answered len a number list i slot h)) ∙ read;
         };
       }

@@ -1,6 +1,6 @@
 -- Rule 5.32 (specs/FromList, `EveryList`): the list that all rows left begins with the rows found, and each is read as it was found.
 --     list-reads                        so it answers as the questions do
---     record-settled, text-settled      and their answers about a row that was written do not wait
+--     record-answered, text-answered      and their answers about a row that was written do not wait
 -- Rests on the row that an element names (export: ListedRow).
 use mathlib.Core.Path.{_≡_, refl, ap, _∙_}
 use mathlib.Core.Bool.{false}
@@ -35,7 +35,7 @@ use Rattle.table_walk.proofs.AskedTable.{asked-sound}
 use Rattle.table_walk.proofs.EachFound.{EachFound}
 use Rattle.export.proofs.FoundRow.{FoundRow, rows-found}
 use Rattle.export.proofs.ListedRow.{rows-ranked, row-listed}
-use Rattle.run.specs.FromList.{EveryList, Settled}
+use Rattle.run.specs.FromList.{EveryList, NotWaiting}
 
 -- a list that rows were written to begins with them
 module _ (list rows : Places) (h : length rows ≤ length list) where
@@ -93,39 +93,39 @@ module _ (len : ℕ) (m : Memory) (number : ℕ) (list : Places) where
       by (refused f) e h = refl
 
 -- the answer about a row that was written does not wait
-settle-settled : {A : Type 0} (answer : ℕ → Answer (Found A)) → ((place : ℕ) → Settled (answer place)) → (list : Places) (i : ℕ) (w : Walk Places)
-    → i < rowsWritten (rowsAnswer list w) → Settled (settleRow answer i w)
-settle-settled answer each list i (given (full rows pages)) h =
+settle-answered : {A : Type 0} (answer : ℕ → Answer (Found A)) → ((place : ℕ) → NotWaiting (answer place)) → (list : Places) (i : ℕ) (w : Walk Places)
+    → i < rowsWritten (rowsAnswer list w) → NotWaiting (settleRow answer i w)
+settle-answered answer each list i (given (full rows pages)) h =
     on (ltb (length list) (length rows)) (λ s. absurd (omega (arith, rw s at h)))
     (λ s. rw (lt-ltb i (length rows) (rw s at h)) (each (getD rows i 0)))
-settle-settled answer each list i (given (waiting page rows pages)) h =
+settle-answered answer each list i (given (waiting page rows pages)) h =
     on (ltb (length list) (length rows)) (λ s. absurd (omega (arith, rw s at h)))
     (λ s. rw (lt-ltb i (length rows) (rw s at h)) (each (getD rows i 0)))
-settle-settled answer each list i (refused f) h = absurd (omega arith)
+settle-answered answer each list i (refused f) h = absurd (omega arith)
 
-found-settled : (page place : ℕ) (text : Answer TextAt) → Settled (textFound page place text)
-found-settled page place (given t) = tt
-found-settled page place (refused f) = tt
+found-answered : (page place : ℕ) (text : Answer TextAt) → NotWaiting (textFound page place text)
+found-answered page place (given t) = tt
+found-answered page place (refused f) = tt
 
 module _ (len : ℕ) (m : Memory) (number : ℕ) (list : Places) where
-  pub record-settled : (i : ℕ) → i < rowsWritten (askRows len m number list .answer) → Settled (askRecord len m number i)
+  pub record-answered : (i : ℕ) → i < rowsWritten (askRows len m number list .answer) → NotWaiting (askRecord len m number i)
   unfolding askRows askRecord
-  record-settled i = by (askedTable len m number)
+  record-answered i = by (askedTable len m number)
     where
-      by : (x : Answer Table) → i < rowsWritten (settleRows list (andThen x (tableWalk len m)) .answer) → Settled (andThen x (recordIn len m i))
-      by (given table) h = settle-settled (recordAt m table) (λ place. tt) list i (tableWalk len m table) h
+      by : (x : Answer Table) → i < rowsWritten (settleRows list (andThen x (tableWalk len m)) .answer) → NotWaiting (andThen x (recordIn len m i))
+      by (given table) h = settle-answered (recordAt m table) (λ place. tt) list i (tableWalk len m table) h
       by (refused f) h = tt
 
-  pub text-settled : (i slot : ℕ) → i < rowsWritten (askRows len m number list .answer) → Settled (askText len m number i slot)
+  pub text-answered : (i slot : ℕ) → i < rowsWritten (askRows len m number list .answer) → NotWaiting (askText len m number i slot)
   unfolding askRows askText
-  text-settled i slot = by (askedTable len m number)
+  text-answered i slot = by (askedTable len m number)
     where
-      each : (table : Table) (place : ℕ) → Settled (textAt m table slot place)
-      each table place = found-settled (place / pageSize m) place (slotText table (rowPart (pageSize m) (m .image) place) slot)
+      each : (table : Table) (place : ℕ) → NotWaiting (textAt m table slot place)
+      each table place = found-answered (place / pageSize m) place (slotText table (rowPart (pageSize m) (m .image) place) slot)
 
-      by : (x : Answer Table) → i < rowsWritten (settleRows list (andThen x (tableWalk len m)) .answer) → Settled (andThen x (textIn len m i slot))
+      by : (x : Answer Table) → i < rowsWritten (settleRows list (andThen x (tableWalk len m)) .answer) → NotWaiting (andThen x (textIn len m i slot))
       by (given table) h =
-          on (ltb slot (slotCount table)) (λ s. rw s (settle-settled (textAt m table slot) (each table) list i (tableWalk len m table) h)) (λ s. rw s tt)
+          on (ltb slot (slotCount table)) (λ s. rw s (settle-answered (textAt m table slot) (each table) list i (tableWalk len m table) h)) (λ s. rw s tt)
       by (refused f) h = tt
 
 pub list-reads : EveryList

@@ -27,17 +27,17 @@ abbrev pub EveryList : Type 0
 EveryList = (len : ℕ) (m : Memory) (table : ℕ) (list : Places) → ReadsAsAsked len m m table list
 
 -- an answer that does not wait
-abbrev pub Settled : {A : Type 0} → Answer (Found A) → Type 0
-Settled (given (found x)) = Unit {0}
-Settled (given (waiting page rows pages)) = ⊥
-Settled (refused f) = Unit {0}
+abbrev pub NotWaiting : {A : Type 0} → Answer (Found A) → Type 0
+NotWaiting (given (found x)) = Unit {0}
+NotWaiting (given (waiting page rows pages)) = ⊥
+NotWaiting (refused f) = Unit {0}
 
 -- Rule 8.15: at any later place of a run, whatever was read from any list without waiting is read again, refusals too; so what all rows
 -- left goes on to be read as it was asked
 pub record KeepsLists (len : ℕ) (earlier later : Memory) : Type 0 where
-  pub records : (table : ℕ) (list : Places) (i : ℕ) → Settled (askRecordIn len earlier table list i)
+  pub records : (table : ℕ) (list : Places) (i : ℕ) → NotWaiting (askRecordIn len earlier table list i)
       → askRecordIn len later table list i ≡ askRecordIn len earlier table list i
-  pub texts : (table : ℕ) (list : Places) (i slot : ℕ) → Settled (askTextIn len earlier table list i slot)
+  pub texts : (table : ℕ) (list : Places) (i slot : ℕ) → NotWaiting (askTextIn len earlier table list i slot)
       → askTextIn len later table list i slot ≡ askTextIn len earlier table list i slot
   pub rows : (table : ℕ) (list : Places) → ReadsAsAsked len earlier later table list
 
