@@ -10,7 +10,7 @@
  *     0           SARVOLTIG_DONE                              those of the function, below
  *     1 to 63     refused, by its number (docs/RULES.md, 2)   what the refusal carries, 0 where it carries nothing
  *     64          SARVOLTIG_SAME (deliveries)                 those of the function
- *     65          SARVOLTIG_WAITING (questions)               rows found, pages walked, page that is waited for
+ *     65          SARVOLTIG_WAITING (questions, lists)        rows found, pages walked, page that is waited for
  *
  * A refusal changes no memory but the result. sarvoltig_rows, sarvoltig_record and sarvoltig_text walk the table's pages
  * from the first, so their time grows with the table. To read many rows, call sarvoltig_rows once and read them from its

@@ -15,8 +15,8 @@ use Rattle.intake.specs.Memory.{Memory, memory}
 use Rattle.table_walk.specs.Asked.{askedTable, withSlot, askedSlot}
 use Rattle.table_walk.specs.Walk.{tableWalk}
 use Rattle.export.specs.Rows.{settleRows, askRows}
-use Rattle.export.specs.Record.{recordIn, askRecord}
-use Rattle.export.specs.Text.{textIn, askText}
+use Rattle.export.specs.Record.{tableRecord, askRecord}
+use Rattle.export.specs.Text.{tableText, askText}
 use Rattle.run.specs.Call.{Question, allRows, oneRecord, oneText, rows, row, text}
 use Rattle.depend.specs.Bytes.{relevantIn, relevant}
 use Rattle.depend.specs.Depend.{answerOn, DecidedBy, SameRows, EveryQuestion}
@@ -53,7 +53,7 @@ module _ (len : ℕ) (map : Words) (s t : Bytes) where
   unfolding askRecord
   record-agree number k a = rw (← asked-same (a .long) number) (by (askedTable len m number) refl a)
     where
-      by : (x : Answer Table) → x ≡ askedTable len m number → Agree (relevantIn len m x) s t → andThen x (recordIn len m k) ≡ andThen x (recordIn len n k)
+      by : (x : Answer Table) → x ≡ askedTable len m number → Agree (relevantIn len m x) s t → andThen x (tableRecord len m k) ≡ andThen x (tableRecord len n k)
       by (given table) e b = record-row len map s t table b (asked-sound len m number e) k
       by (refused f) e b = refl
 
@@ -63,7 +63,7 @@ module _ (len : ℕ) (map : Words) (s t : Bytes) where
   text-agree number k slot a = rw (← asked-same (a .long) number) (by (askedTable len m number) refl a)
     where
       by : (x : Answer Table) → x ≡ askedTable len m number → Agree (relevantIn len m (andThen x (λ table. withSlot slot table (given table)))) s t
-          → andThen x (textIn len m k slot) ≡ andThen x (textIn len n k slot)
+          → andThen x (tableText len m k slot) ≡ andThen x (tableText len n k slot)
       by (given table) e b =
           on (ltb slot (slotCount table)) (λ h. rw h (text-row len map s t table (rw h at b) (asked-sound len m number e) k slot)) (λ h. rw h)
       by (refused f) e b = refl

@@ -7,7 +7,7 @@
 --     InUseOnly          bytes past L and words past those in use change nothing
 --     ListLength         of the list that comes with a question only the length does
 --     Depend             the theorem about the questions, from these
---     ListAgree          images that agree on the relevant bytes of an entry of a list give the same row
+--     ListAgree          images that agree on the relevant bytes of an element of a list give the same row
 --     DependList         the theorem about reading from a list
 --     Examples           the examples, by computation
 pub mod PartAgree

@@ -1,5 +1,5 @@
 -- Rules 7.1 to 7.7 and 7.12: the relevant bytes of the image, those that the answer to a question may depend on.
--- Rests on the relevant bytes of block 0 and of a page (directory/Bytes, page/Bytes) and on the pages that a walk reads (export/Reads).
+-- Rests on the relevant bytes of block 0 and of a page (directory/Bytes, page/Bytes) and on the pages that a walk reads (table_walk/Reads).
 use mathlib.Core.Bool.{Bool, false, _&&_, _||_}
 use Prim.Native.Nat.{ℕ, _/_, _%_}
 use Rattle.lists.specs.Alias.{Bytes}

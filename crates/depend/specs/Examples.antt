@@ -34,6 +34,10 @@ pageTwo image =
 abbrev pub genres : Bytes
 genres = pageTwo (pageOne (header (replicate 2048 0)))
 
+-- both rows of page 2 are present
+abbrev pub bothRows : Bytes
+bothRows = put genres 1532 (3 ∷ [])
+
 -- the present row starts three bytes before the row index
 abbrev pub unfit : Bytes
 unfit = put genres 1528 (0xcd ∷ 0x01 ∷ [])
@@ -84,6 +88,13 @@ yesAt list i = record { found = readRelevant 2048 (memory genres (all ∷ [])) (
 abbrev pub noAt : (list : Places) (i : ℕ) → Example
 noAt list i = record { found = readRelevant 2048 (memory genres (all ∷ [])) (recordFrom 1 list 0) i; said = false }
 
+-- the same of the second of both rows, read from the list of both
+abbrev pub yesSecond : (i : ℕ) → Example
+yesSecond i = record { found = readRelevant 2048 (memory bothRows (all ∷ [])) (recordFrom 1 (1064 ∷ 1080 ∷ []) 1) i; said = true }
+
+abbrev pub noSecond : (i : ℕ) → Example
+noSecond i = record { found = readRelevant 2048 (memory bothRows (all ∷ [])) (recordFrom 1 (1064 ∷ 1080 ∷ []) 1) i; said = false }
+
 abbrev pub examples : List Example
 examples =
     -- block 0: len_page and what stands behind num_tables; the pointer with its empty_candidate, and where a second one would be
@@ -113,6 +124,8 @@ examples =
     noAt (1080 ∷ []) 1079 ∷ noAt (1080 ∷ []) 1534 ∷ noAt (1080 ∷ []) 516 ∷
     -- the place of the absent row: no byte of any row; a place on page 0, and no element: block 0 alone
     yesAt (1064 ∷ []) 1532 ∷ noAt (1064 ∷ []) 1064 ∷ noAt (1064 ∷ []) 1080 ∷ noAt (40 ∷ []) 516 ∷ yesAt [] 0x1c ∷ noAt [] 1028 ∷
+    -- of two present rows the one that is named is relevant and the other is not, but both their offsets are
+    yesSecond 1080 ∷ yesSecond 1088 ∷ noSecond 1064 ∷ noSecond 1068 ∷ yesSecond 1528 ∷ yesSecond 1530 ∷
     []
 
 abbrev pub ExamplesHold : List Example → Type 0

@@ -1,8 +1,8 @@
--- The rows that the walk for a table finds (specs/Walk): each is a present row of a page that the walk reads, and passes the row check.
+-- The rows that the walk for a table finds (table_walk/Walk): each is a present row of a page that the walk reads, and passes the row check.
 --     FoundRow, rows-found     what is known of each
 --     row-read-same            with more blocks held, what is read from a row of a page that is held is the same
 --     row-text                 it has no malformed string (rule 5.26)
--- Rests on proofs/EachFound and proofs/PageWalked.
+-- Rests on the pages that the walk reads and the rows on them (table_walk: PageWalked, EachFound).
 use mathlib.Core.Path.{_≡_, ap, _∙_}
 use mathlib.Core.Bool.{true}
 use mathlib.Core.List.{[], _∷_}

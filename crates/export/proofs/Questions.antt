@@ -4,7 +4,7 @@
 --     ask-rows-same, ask-record-same, ask-text-same     memories with the same held blocks give the same answers, and leave the same list
 --     own-rows, own-record, own-text                    where a question is refused by a fault of the file's own, the walk of its table is
 --     refused-rows, refused-record, refused-text        where the walk is refused, so is the question, but for 19
--- Rests on the walk (proofs/TableWalk) and on the rows that it finds (proofs/FoundRow).
+-- Rests on the walk (table_walk: TableWalk) and on the rows that it finds (proofs/FoundRow).
 use mathlib.Core.Path.{_≡_, refl, sym, ap, _∙_}
 use mathlib.Core.Bool.{Bool, true, false, cond, not}
 use mathlib.Core.Logic.{_⊎_, inl, inr}
@@ -32,8 +32,8 @@ use Rattle.table_walk.specs.Walk.{pageSize, tableWalk}
 use Rattle.export.specs.Rows.{rowsOutcome, rowsAnswer, settleRows, askRows}
 use Rattle.chain.specs.Found as row
 use Rattle.export.specs.Row.{settleRow, rowPart}
-use Rattle.export.specs.Record.{recordAt, recordIn, askRecord}
-use Rattle.export.specs.Text.{textFound, textAt, textIn, askText}
+use Rattle.export.specs.Record.{recordAt, tableRecord, askRecord}
+use Rattle.export.specs.Text.{textFound, textAt, tableText, askText}
 use Rattle.lists.proofs.Choice.{on, never, cond-agree}
 use Rattle.lists.proofs.Each.{Each, each-at}
 use Rattle.table_walk.proofs.AskedTable.{sound-asked}
@@ -48,11 +48,11 @@ module _ (len : ℕ) (m : Memory) (sound : Sound len m) (number : ℕ) where
   unfolding askRows
   rows-asked list = rw (sound-asked len m number sound)
 
-  pub record-asked : (k : ℕ) → askRecord len m number k ≡ andThen (tableOf number) (recordIn len m k)
+  pub record-asked : (k : ℕ) → askRecord len m number k ≡ andThen (tableOf number) (tableRecord len m k)
   unfolding askRecord
   record-asked k = rw (sound-asked len m number sound)
 
-  pub text-asked : (k slot : ℕ) → askText len m number k slot ≡ andThen (tableOf number) (textIn len m k slot)
+  pub text-asked : (k slot : ℕ) → askText len m number k slot ≡ andThen (tableOf number) (tableText len m k slot)
   unfolding askText
   text-asked k slot = rw (sound-asked len m number sound)
 
@@ -200,18 +200,18 @@ module _ (len : ℕ) (m : Memory) (sound : Sound len m) (number : ℕ) (f : Faul
 
   pub own-record : (k : ℕ) → askRecord len m number k ≡ refused f → OwnFault f → TableRefused len m number f
   own-record k e own =
-      asked-own (recordIn len m k)
+      asked-own (tableRecord len m k)
       (λ table r. settle-own (recordAt m table) k f own (tableWalk len m table) (found-given table (recordAt m table) (λ place found z. never (cc))) r)
       own (sym (record-asked len m sound number k) ∙ e)
 
   pub own-text : (k slot : ℕ) → askText len m number k slot ≡ refused f → OwnFault f → TableRefused len m number f
-  own-text k slot e own = asked-own (textIn len m k slot) walked own (sym (text-asked len m sound number k slot) ∙ e)
+  own-text k slot e own = asked-own (tableText len m k slot) walked own (sym (text-asked len m sound number k slot) ∙ e)
     where
       good : (table : Table) → slot < slotCount table → (place : ℕ) → FoundRow len m table place → textAt m table slot place ≡ refused f → ⊥
       good table h place found z =
           text-given (place / pageSize m) place (slotText table (rowPart (pageSize m) (m .image) place) slot) f (row-text found slot h) z
 
-      walked : (table : Table) → textIn len m k slot table ≡ refused f → tableWalk len m table ≡ refused f
+      walked : (table : Table) → tableText len m k slot table ≡ refused f → tableWalk len m table ≡ refused f
       walked table r =
           on (ltb slot (slotCount table))
           (λ h. settle-own (textAt m table slot) k f own (tableWalk len m table)

@@ -16,11 +16,11 @@ use Rattle.export.specs.Row.{settleRow, rowPart}
 abbrev pub recordAt : (m : Memory) (table : Table) (place : ℕ) → Answer (row.Found RowRecord)
 recordAt m table place = given (row.found (readRecord table (rowPart (pageSize m) (m .image) place)))
 
-abbrev pub recordIn : (len : ℕ) (m : Memory) (k : ℕ) (table : Table) → Answer (row.Found RowRecord)
-recordIn len m k table = settleRow (recordAt m table) k (tableWalk len m table)
+abbrev pub tableRecord : (len : ℕ) (m : Memory) (k : ℕ) (table : Table) → Answer (row.Found RowRecord)
+tableRecord len m k table = settleRow (recordAt m table) k (tableWalk len m table)
 
 unfoldable pub askRecord : (len : ℕ) (m : Memory) (number k : ℕ) → Answer (row.Found RowRecord)
-askRecord len m number k = andThen (askedTable len m number) (recordIn len m k)
+askRecord len m number k = andThen (askedTable len m number) (tableRecord len m k)
 
 -- the answer for each case of the code's enum
 abbrev pub recordReplyOf : RecordReply → Answer (row.Found RowRecord)

@@ -39,11 +39,11 @@ abbrev pub textAt : (m : Memory) (table : Table) (slot place : ℕ) → Answer (
 textAt m table slot place = textOn (pageSize m) (m .image) table slot place
 
 -- Rules 2.28, 5.25: 19 comes before the walk
-abbrev pub textIn : (len : ℕ) (m : Memory) (k slot : ℕ) (table : Table) → Answer (row.Found TextPlace)
-textIn len m k slot table = withSlot slot table (settleRow (textAt m table slot) k (tableWalk len m table))
+abbrev pub tableText : (len : ℕ) (m : Memory) (k slot : ℕ) (table : Table) → Answer (row.Found TextPlace)
+tableText len m k slot table = withSlot slot table (settleRow (textAt m table slot) k (tableWalk len m table))
 
 unfoldable pub askText : (len : ℕ) (m : Memory) (number k slot : ℕ) → Answer (row.Found TextPlace)
-askText len m number k slot = andThen (askedTable len m number) (textIn len m k slot)
+askText len m number k slot = andThen (askedTable len m number) (tableText len m k slot)
 
 -- the answer for each case of the code's enum
 abbrev pub textReplyOf : TextReply → Answer (row.Found TextPlace)

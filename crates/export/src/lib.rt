@@ -29,7 +29,7 @@ use table::TableReply;
 use text::Encoding;
 use text::Text;
 
-// Where row k of a table is, and the size of its page; or why it has no place.
+// Where a row is, and the size of its page; or why it has no place.
 enum RowReply {
     Found { place: u32, size: u32 },
     Waiting { page: u32, rows: usize, pages: u64 },

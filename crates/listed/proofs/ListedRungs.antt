@@ -3,7 +3,7 @@
 --     row-read                             the row is read
 use mathlib.Core.Path.{_≡_}
 use mathlib.Core.Bool.{Bool, true, false}
-use Prim.Native.Nat.{ℕ, _%_, _/_, _<_, _≤_}
+use Prim.Native.Nat.{ℕ, _%_, _<_, _≤_, min}
 use native.Mathlib.Nat.{div-zero}
 use lib.ListN.{length, getD}
 use lib.Dec.{leb}
@@ -17,6 +17,8 @@ use Rattle.page.specs.OneRow.{readRow}
 use Rattle.chain.specs.Found.{Found, found, waiting}
 use Rattle.chain.specs.Held.{pageHeld}
 use Rattle.chain.specs.File.{pagePart}
+use Rattle.page.proofs.OneRowAnswer.{rank-most}
+use Rattle.chain.proofs.PagePart.{part-short}
 use Rattle.listed.specs.Rank.{pageOf, runBefore, rank}
 use Rattle.listed.specs.Listed.{listedPlace}
 
@@ -40,12 +42,17 @@ module _ (size pageCount : ℕ) (table : Table) (image : Bytes) (map : Words) (l
       unfolding listedPlace
       page-missing m = rw (inside, ← e, l, ← f, m)
 
-      pub row-read : held ≡ true → {count : ℕ} → count ≡ runBefore size list (pageOf size list i) i → {answer : Answer (Found ℕ)}
+      pub row-read : held ≡ true → {count : ℕ} → count ≡ min size (runBefore size list (pageOf size list i) i) → {answer : Answer (Found ℕ)}
           → answer ≡ andThen
           (readRow (pageOf size list i) table (pagePart size image (pageOf size list i)) (getD list i 0 % size) count) (λ _. given (found (getD list i 0)))
           → answer ≡ listedPlace size pageCount table image map list i
       unfolding listedPlace rank
-      row-read m c a = rw (inside, ← e, l, ← f, m, ← c) a
+      row-read m c a =
+          let number = pageOf size list i in
+          let page = pagePart size image number in
+          let start = getD list i 0 % size in
+          let ranked = rank-most number table page start (runBefore size list number i) size (part-short image size number) in
+          rw (inside, ← e, l, ← f, m, ← ranked, ← c) a
 
 -- pages of no bytes: every place is said to lie on page 0, which is no page of a table
 pub no-size : (size pageCount : ℕ) (list : Places) (i : ℕ) → size ≡ 0 → false ≡ linkable pageCount (pageOf size list i)

@@ -1,6 +1,6 @@
 // The row that an element of a list of places names, read from one page.
 ghost use mathlib.Core.Path.{_≡_};
-ghost use Prim.Native.Nat.{_%_, _/_, _<_, _≤_};
+ghost use Prim.Native.Nat.{_%_, _/_, _<_, _≤_, min};
 ghost use lib.ListN.{length};
 ghost use lib.Dec.{eqb};
 ghost use Rattle.refusal.specs.Answer.{given, andThen};
@@ -32,14 +32,19 @@ fn lies_on(place: u32, first: u32, size: u32) -> bool
     place - first < size
 }
 
-// How many of the places directly before element i lie on the page that starts at a byte.
+// How many of the places directly before element i lie on the page that starts at a byte. Not more are counted than the
+// page has bytes: no row has a higher rank.
 fn run_before(list: &[u32], i: usize, first: u32, size: u32) -> usize
     requires { ⌜ (i ≤ length (now list)) × ((0 < size) × (first % size ≡ 0)) ⌝ }
-    ensures { λ r. ⌜ r ≡ runBefore size (now (list .entry)) (first / size) i ⌝ }
+    ensures { λ r. ⌜ r ≡ min size (runBefore size (now (list .entry)) (first / size) i) ⌝ }
 {
+    let most = size as usize;
     let mut left = i;
     let mut count: usize = 0;
     while 0 < left {
+        if most <= count {
+            return count;
+        }
         if !lies_on(list[left - 1], first, size) {
             return count;
         }

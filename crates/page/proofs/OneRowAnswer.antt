@@ -2,13 +2,16 @@
 --     row-read         the header agrees, the index fits, the row is where it is said to be and is good
 --     read-row-good    the other way round
 --     start-fits       a page with a row of some rank has rows, and its index fits
+--     rank-most        ranks from the page's length on are all alike
 use mathlib.Core.Path.{_≡_, refl}
 use mathlib.Core.Bool.{true, false, false≢true, not}
 use mathlib.Core.List.{[]}
-use Prim.Native.Nat.{ℕ}
+use Prim.Native.Nat.{ℕ, _≤_, min}
+use native.Mathlib.Nat.{min-eq-left, min-eq-right}
 use native.Mathlib.Omega.{arith}
-use lib.ListN.{drop}
-use borrow.Author.Tests.{not-false}
+use lib.ListN.{length, drop}
+use lib.Dec.{leb}
+use borrow.Author.Tests.{le-ltb, leb-true, leb-false}
 use Rattle.lists.specs.Alias.{Bytes, Places}
 use Rattle.lists.specs.Nth.{nth, isElement}
 use Rattle.lists.proofs.Choice.{on, never}
@@ -20,6 +23,7 @@ use Rattle.page.specs.Header.{headerAgrees, rowless}
 use Rattle.page.specs.Read.{indexFits, beforeIndex, rowStarts, onPage}
 use Rattle.page.specs.Row.{pageRow}
 use Rattle.page.specs.OneRow.{isRow, readRow}
+use Rattle.page.proofs.RowStarts.{rows-short}
 
 pub record ReadRow (number : ℕ) (table : Table) (page : Bytes) (start rank : ℕ) : Type 0 where
   pub header : headerAgrees number table page ≡ true
@@ -60,3 +64,16 @@ module _ (number : ℕ) (table : Table) (page : Bytes) (start rank : ℕ) where
   start-fits e =
       on (rowless page) (λ r. absurd (false≢true (rw (r, nth-none rank 0) at e)))
       (λ r. on (indexFits page) (λ f. (r, f)) (λ f. absurd (false≢true (rw (r, f, nth-none rank 0) at e))))
+
+-- a page has fewer rows than bytes, so a rank from there on is no row's, whichever it is
+no-row : (page : Bytes) (start rank : ℕ) → length page ≤ rank → isRow page start rank ≡ false
+unfolding isRow pageRow
+no-row page start rank h = rw (le-ltb rank (length (rowStarts page)) (omega (arith, rows-short page)))
+
+pub rank-most : (number : ℕ) (table : Table) (page : Bytes) (start rank most : ℕ) → length page ≤ most
+    → readRow number table page start (min most rank) ≡ readRow number table page start rank
+unfolding readRow
+rank-most number table page start rank most h =
+    on (leb most rank)
+    (λ e. let l = leb-true most rank e in rw (min-eq-left l, no-row page start most h, no-row page start rank (omega arith)))
+    (λ e. let l = leb-false most rank e in rw (min-eq-right {n = rank} {m = most} (omega arith)))

@@ -1,17 +1,17 @@
 -- Rules 4.13, 4.17, 5.4, 5.5: the rows of a page, as the code finds them and how many they are.
 --     index-read                    what the header says of the row index
 --     entries-room, starts-read     the entries whose rows are looked at, which stand in the page
---     few-rows                      rows are at most as many as entries
+--     few-rows, rows-short          rows are at most as many as entries, and as the page's bytes
 --     before-short                  the part for rows is no longer than the page
 --     places-low, places-high       the places that are written, by where the page starts
 use mathlib.Core.Path.{_≡_}
 use mathlib.Core.Bool.{Bool, true}
 use mathlib.Core.List.{[]}
-use Prim.Native.Nat.{ℕ, zero, suc, _+_, _-_, _<_, _≤_}
+use Prim.Native.Nat.{ℕ, zero, suc, _+_, _-_, _%_, _<_, _≤_}
 use native.Mathlib.Omega.{arith}
 use lib.ListN.{length, length-take}
-use lib.Dec.{leb}
-use borrow.Author.Tests.{le-leb, lt-leb, leb-true}
+use lib.Dec.{leb, eqb}
+use borrow.Author.Tests.{le-leb, lt-leb, leb-true, eqb-true}
 use Rattle.lists.specs.Alias.{Bytes, Places}
 use Rattle.lists.proofs.Choice.{on, cond-holds}
 use Rattle.format.specs.Size.{heapStart}
@@ -62,6 +62,18 @@ unfolding rowStarts
 few-rows page =
     cond-holds (λ (l : Places). length l ≤ entries page) (rowless page) (λ e. omega arith)
     (λ e. cond-holds (λ (l : Places). length l ≤ entries page) (indexFits page) (λ f. from-few page (entries page) 0) (λ f. omega arith))
+
+-- an index has at least a byte for each entry
+index-long : (n : ℕ) → n ≤ indexSize n
+unfolding indexSize
+index-long n = on (eqb (n % 16) 0) (λ e. let z = eqb-true (n % 16) 0 e in rw e (omega arith)) (λ e. rw e (omega arith))
+
+pub rows-short : (page : Bytes) → length (rowStarts page) ≤ length page
+unfolding rowStarts
+rows-short page =
+    let Short : Places → Type 0 = λ (l : Places). length l ≤ length page in
+    cond-holds Short (rowless page) (λ _. omega arith)
+    (λ _. cond-holds Short (indexFits page) (λ f. omega (arith, from-few page (entries page) 0, index-inside page f, index-long (entries page))) (λ _. omega arith))
 
 pub before-short : (page : Bytes) → length (beforeIndex page) ≤ length page
 unfolding beforeIndex

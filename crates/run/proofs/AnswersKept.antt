@@ -33,8 +33,8 @@ use Rattle.export.specs.Rows.{RowsOutcome, settleRows, askRows}
 use Rattle.chain.specs.Found as row
 use Rattle.chain.specs.Found.{Found, found}
 use Rattle.export.specs.Row.{settleRow}
-use Rattle.export.specs.Record.{recordAt, recordIn, askRecord}
-use Rattle.export.specs.Text.{TextPlace, textAt, textIn, askText}
+use Rattle.export.specs.Record.{recordAt, tableRecord, askRecord}
+use Rattle.export.specs.Text.{TextPlace, textAt, tableText, askText}
 use Rattle.run.specs.Call.{Question, allRows, oneRecord, oneText, answer}
 use Rattle.run.specs.Written.{placesWritten}
 use Rattle.run.specs.Refusal.{faultInReply, tableAsked}
@@ -155,7 +155,7 @@ module _ {len : ℕ} {a b : Memory}
   keeps-record : (number k : ℕ) (x : RowRecord) → askRecord len a number k ≡ given (found x) → StaysAnswered x (askRecord len b number k)
   keeps-record number k x e = rw (record-asked len b soundB number k) (by (tableOf number) (sym (record-asked len a soundA number k) ∙ e))
     where
-      by : (t : Answer Table) → andThen t (recordIn len a k) ≡ given (found x) → StaysAnswered x (andThen t (recordIn len b k))
+      by : (t : Answer Table) → andThen t (tableRecord len a k) ≡ given (found x) → StaysAnswered x (andThen t (tableRecord len b k))
       by (given table) p =
           settle-stays (recordAt a table) (recordAt b table) k x (tableWalk len b table) (table-walk-own len b table) (tableWalk len a table)
           (grows table)
@@ -166,7 +166,7 @@ module _ {len : ℕ} {a b : Memory}
   keeps-text : (number k slot : ℕ) (x : TextPlace) → askText len a number k slot ≡ given (found x) → StaysAnswered x (askText len b number k slot)
   keeps-text number k slot x e = rw (text-asked len b soundB number k slot) (by (tableOf number) (sym (text-asked len a soundA number k slot) ∙ e))
     where
-      by : (t : Answer Table) → andThen t (textIn len a k slot) ≡ given (found x) → StaysAnswered x (andThen t (textIn len b k slot))
+      by : (t : Answer Table) → andThen t (tableText len a k slot) ≡ given (found x) → StaysAnswered x (andThen t (tableText len b k slot))
       by (given table) p =
           on (ltb slot (slotCount table))
           (λ h. rw h

@@ -1,9 +1,11 @@
--- Demand 3 (specs/Demand), for every run: one term; and what follows for reading from a list (specs/FromList).
+-- Demand 3 (specs/Demand), for every run: one term; and its corollary for reading from a list (specs/FromList).
 -- Rests on what holds at the end of a run (proofs/RunHolds, proofs/CallsAppend), on the questions over the blocks held (export: Questions),
 -- and on proofs/HeldBlocks and proofs/AnswersKept.
 use mathlib.Core.Path.{_≡_, ap, _∙_}
 use mathlib.Core.List.{List, _++_}
+use mathlib.Core.Option.{some}
 use Prim.Native.Nat.{ℕ}
+use Rattle.lists.specs.Alias.{Bytes}
 use Rattle.bitmap.specs.Count.{heldCount}
 use Rattle.intake.specs.Private.{Sound}
 use Rattle.intake.specs.Memory.{Memory}
@@ -18,6 +20,7 @@ use Rattle.intake.proofs.RulesPassed.{Accepted}
 use Rattle.intake.proofs.OpenClears.{opens, opening-accepted}
 use Rattle.table_walk.proofs.SameBlocks.{SameBlocks, MoreBlocks}
 use Rattle.export.proofs.Questions.{ask-rows-same, ask-record-same, ask-text-same}
+use Rattle.run.proofs.HoldsKept.{holds-sound}
 use Rattle.run.proofs.RunHolds.{run-holds, run-sound, run-alike}
 use Rattle.run.proofs.CallsAppend.{received-append, received-last, calls-last, calls-keep}
 use Rattle.run.proofs.FileMemory.{received-sound, whole-sound, order-whole}
@@ -32,6 +35,12 @@ answer-same soundA soundB same (allRows table list) = ap rows (ask-rows-same sou
 answer-same soundA soundB same (oneRecord table k) = ap row (ask-record-same soundA soundB same table k)
 answer-same soundA soundB same (oneText table k slot) = ap text (ask-text-same soundA soundB same table k slot)
 
+-- what was received stays received
+received-later : (len : ℕ) (calls later : List Call) (b : ℕ) (piece : Bytes) → runReceived len calls b ≡ some piece
+    → runReceived len (calls ++ later) b ≡ some piece
+received-later len calls later b piece e =
+    ap (λ (r : Received). r b) (received-append len calls later nothing) ∙ calls-keep len later (runReceived len calls) b piece e
+
 module _ (len : ℕ) (before : Memory) (passed : Accepted len (before .image) (before .map)) (calls : List Call) where
   at-end : Holds len before (runReceived len calls) (runMemory len before calls)
   at-end = run-holds len before passed calls
@@ -41,9 +50,7 @@ module _ (len : ℕ) (before : Memory) (passed : Accepted len (before .image) (b
 
   more-later : (later : List Call) → MoreBlocks len (runMemory len before calls) (runMemory len before (calls ++ later))
   more-later later =
-      holds-more at-end
-      (λ b piece e. ap (λ (r : Received). r b) (received-append len calls later nothing) ∙ calls-keep len later (runReceived len calls) b piece e)
-      (run-holds len before passed (calls ++ later))
+      holds-more at-end (received-later len calls later) (run-holds len before passed (calls ++ later))
 
   at-every-end : Demand len before calls
   at-every-end =
@@ -70,8 +77,10 @@ module _ (len : ℕ) (before : Memory) (passed : Accepted len (before .image) (b
 pub demand : EveryRun
 demand len before e = at-every-end len before (opening-accepted len (before .image) (before .map) e)
 
--- Rule 8.15: the corollary for reading from a list
+-- Rule 8.15, a corollary: by what the run holds at both places
 pub list-keeps : EveryRunKeepsLists
 list-keeps len before e calls later =
     let passed = opening-accepted len (before .image) (before .map) e in
-    lists-kept (still-sound len before passed calls calls) (still-sound len before passed calls (calls ++ later)) (more-later len before passed calls later)
+    let earlier = demand len before e calls .holds in
+    let at-later = demand len before e (calls ++ later) .holds in
+    lists-kept (holds-sound passed earlier) (holds-sound passed at-later) (holds-more earlier (received-later len calls later) at-later)

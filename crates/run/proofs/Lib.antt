@@ -6,10 +6,10 @@
 --     CallsAppend      a run that goes on keeps its received blocks
 --     FileMemory       the memories made of the received blocks, and of a whole file
 --     HeldBlocks       the run's memory and those memories hold the same blocks; more received, more held
---     AnswersKept      with more blocks held, written places, answers and faults stay: by export's laws of the walk
+--     AnswersKept      with more blocks held, written places, answers and faults stay: by the laws of the walk (table_walk) and of the questions (export)
 --     ListRead         reading from the list that all rows left answers as the questions do
 --     ListKept         with more blocks held, what was read from a list stays
---     Demand           all of it, one term; and the corollary for lists
+--     Demand           all of it, one term; and its corollary for lists
 pub mod ReceivedBlocks
 pub mod HoldsKept
 pub mod Determined

@@ -3,7 +3,7 @@
 --     records-kept, texts-kept     the records and strings
 --     lists-kept                   so those of the rows that all rows left
 --     record-in-same, text-in-same     where the same blocks are held, every answer is the same
--- Rests on proofs/ListRead, and on what is known of a run's blocks (proofs/Demand).
+-- Rests on proofs/ListRead, on the blocks that are held (table_walk: SameBlocks) and on the row that an element names (export: ListedRow).
 use mathlib.Core.Path.{_≡_, refl, sym, ap, _∙_}
 use mathlib.Core.Bool.{true, false}
 use mathlib.Core.List.{List, _++_}

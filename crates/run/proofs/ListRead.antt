@@ -28,8 +28,8 @@ use Rattle.table_walk.specs.Asked.{askedTable}
 use Rattle.table_walk.specs.Walk.{pageSize, tableWalk}
 use Rattle.export.specs.Rows.{rowsWritten, rowsAnswer, listAfter, settleRows, askRows}
 use Rattle.export.specs.Row.{settleRow, rowPart}
-use Rattle.export.specs.Record.{recordAt, recordIn, askRecord}
-use Rattle.export.specs.Text.{textFound, textAt, textIn, askText}
+use Rattle.export.specs.Record.{recordAt, tableRecord, askRecord}
+use Rattle.export.specs.Text.{textFound, textAt, tableText, askText}
 use Rattle.export.specs.FromList.{tableListed, recordListed, askRecordIn, textListed, askTextIn}
 use Rattle.table_walk.proofs.AskedTable.{asked-sound}
 use Rattle.table_walk.proofs.EachFound.{EachFound}
@@ -77,7 +77,7 @@ module _ (len : ℕ) (m : Memory) (number : ℕ) (list : Places) where
   records i = by (askedTable len m number) refl
     where
       by : (x : Answer Table) → x ≡ askedTable len m number → i < rowsWritten (settleRows list (andThen x (tableWalk len m)) .answer)
-          → andThen x (recordListed len m (settleRows list (andThen x (tableWalk len m)) .list) i) ≡ andThen x (recordIn len m i)
+          → andThen x (recordListed len m (settleRows list (andThen x (tableWalk len m)) .list) i) ≡ andThen x (tableRecord len m i)
       by (given table) e h = read-as-asked len m table (asked-sound len m number e) list i (recordAt m table) h
       by (refused f) e h = refl
 
@@ -87,7 +87,7 @@ module _ (len : ℕ) (m : Memory) (number : ℕ) (list : Places) where
   texts i slot = by (askedTable len m number) refl
     where
       by : (x : Answer Table) → x ≡ askedTable len m number → i < rowsWritten (settleRows list (andThen x (tableWalk len m)) .answer)
-          → andThen x (textListed len m (settleRows list (andThen x (tableWalk len m)) .list) i slot) ≡ andThen x (textIn len m i slot)
+          → andThen x (textListed len m (settleRows list (andThen x (tableWalk len m)) .list) i slot) ≡ andThen x (tableText len m i slot)
       by (given table) e h =
           on (ltb slot (slotCount table)) (λ s. rw s (read-as-asked len m table (asked-sound len m number e) list i (textAt m table slot) h)) (λ s. rw s)
       by (refused f) e h = refl
@@ -112,7 +112,7 @@ module _ (len : ℕ) (m : Memory) (number : ℕ) (list : Places) where
   unfolding askRows askRecord
   record-answered i = by (askedTable len m number)
     where
-      by : (x : Answer Table) → i < rowsWritten (settleRows list (andThen x (tableWalk len m)) .answer) → NotWaiting (andThen x (recordIn len m i))
+      by : (x : Answer Table) → i < rowsWritten (settleRows list (andThen x (tableWalk len m)) .answer) → NotWaiting (andThen x (tableRecord len m i))
       by (given table) h = settle-answered (recordAt m table) (λ place. tt) list i (tableWalk len m table) h
       by (refused f) h = tt
 
@@ -123,7 +123,7 @@ module _ (len : ℕ) (m : Memory) (number : ℕ) (list : Places) where
       each : (table : Table) (place : ℕ) → NotWaiting (textAt m table slot place)
       each table place = found-answered (place / pageSize m) place (slotText table (rowPart (pageSize m) (m .image) place) slot)
 
-      by : (x : Answer Table) → i < rowsWritten (settleRows list (andThen x (tableWalk len m)) .answer) → NotWaiting (andThen x (textIn len m i slot))
+      by : (x : Answer Table) → i < rowsWritten (settleRows list (andThen x (tableWalk len m)) .answer) → NotWaiting (andThen x (tableText len m i slot))
       by (given table) h =
           on (ltb slot (slotCount table)) (λ s. rw s (settle-answered (textAt m table slot) (each table) list i (tableWalk len m table) h)) (λ s. rw s tt)
       by (refused f) h = tt

@@ -142,8 +142,12 @@ fn check_list(intake: &Intake, table: Table, list: &[u32]) {
 /// The rows found so far agree with the questions, and so do the lists of earlier answers, which are kept.
 fn check_rows(intake: &Intake, kept: &mut HashMap<Table, Vec<u32>>) {
     for table in Table::ALL {
-        let Ok(rows) = intake.rows(table) else {
-            continue;
+        let rows = match intake.rows(table) {
+            Err(refusal) => {
+                assert_eq!(refusal, Refusal::NoPointer);
+                continue;
+            }
+            Ok(rows) => rows,
         };
         assert_eq!(rows.len() as u64, rows.walk().rows());
         for row in &rows {

@@ -1,6 +1,6 @@
 -- `listed::find` meets its contract: the tests that led to each return say which rung of `listedPlace` answers (proofs/ListedRungs).
 use mathlib.Core.Path.{refl, ap, _∙_}
-use Prim.Native.Nat.{ℕ, _<_}
+use Prim.Native.Nat.{ℕ, _<_, min}
 use native.Mathlib.Nat.{mod-le}
 use native.Mathlib.Omega.{arith}
 use lib.ListN.{getD}
@@ -74,7 +74,7 @@ returns-5 c =
     let a = element .before .before .before .before .args in
     let some : 0 < a .size = omega (arith, size .if2 .left) in
     let place = getD (a .list .now) (a .i) 0 in
-    let count = c .before .run-before .ensures ∙ ap (λ (page : ℕ). runBefore (a .size) (a .list .now) page (a .i)) (first-page place (a .size) some) in
+    let count = c .before .run-before .ensures ∙ ap (λ (page : ℕ). min (a .size) (runBefore (a .size) (a .list .now) page (a .i))) (first-page place (a .size) some) in
     row-read _ _ _ _ _ _ _ (element .if1 .left) (link .before .linkable .ensures) (not-false _ (link .if3 .left)) (held .before .is-held .ensures)
     (not-false _ (held .if4 .left)) count (c .find-on .ensures)
 

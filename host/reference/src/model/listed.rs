@@ -1,4 +1,4 @@
-//! One row read from a list of places that a question for all rows wrote.
+//! One row read from a list of places that a question for all rows wrote (rules 5.27 to 5.31).
 
 use super::directory::Directory;
 use super::page::Page;

@@ -1,4 +1,4 @@
-//! Lists of places, and the questions that read from them.
+//! Lists of places, and the calls that read from them.
 
 use super::Planner;
 use crate::layout::Layout;
@@ -6,12 +6,12 @@ use crate::model::{Rows, Table, PAGE_HEADER};
 use crate::schedule::run::LIST_FILL;
 use crate::schedule::Call;
 
-/// Of shorter lists all elements are asked for.
+/// Of shorter lists all elements are read in half of the cases.
 const SHORT_LIST: u64 = 8;
-/// Longer lists are cut, as they are in many runs.
+/// A list made from a table's pages takes no further page once it is as long.
 const LONGEST_LIST: usize = 3000;
 
-/// The list that questions read from, as far as it is known.
+/// The list that calls read from, as far as it is known.
 #[derive(Default)]
 pub(super) struct ListMade {
     /// The table whose rows it names.
@@ -21,7 +21,7 @@ pub(super) struct ListMade {
 }
 
 impl Planner<'_> {
-    /// Questions that read from a list: a new one, or the one that is there,
+    /// Calls that read from a list: a new one, or the one that is there,
     /// which may have been made when fewer blocks were held.
     pub(super) fn ask_from_list(&mut self, table: u32) {
         let old = !self.run.list().is_empty() && self.rng.chance(1, 2);
