@@ -52,7 +52,7 @@ fn refuse(refusal: Refusal, result: &mut [u64]) -> u32
     put(fault.number, &[fault.carries], result)
 }
 
-// The reply of a question that waits for a page.
+// The reply of an answer that waits for a page.
 fn wait(page: u32, rows: usize, pages: u64, result: &mut [u64]) -> u32
     ensures { λ r. ⌜ Replied (waitReply page rows pages) r (now (result .entry)) (now (result .exit)) ⌝ }
 {

@@ -1,4 +1,4 @@
--- Rules 7.2 to 7.8, 7.10, 7.12 and 7.14 by example: a file of four pages, of which page 3 is off the chain, and two that differ a little.
+-- Rules 7.2 to 7.8, 7.10, 7.12 and 7.14 by example: a file of four pages, of which page 3 is off the chain, and three that differ a little.
 -- An example holds when the definitions say of a byte what is said here.
 use mathlib.Core.Path.{_≡_}
 use mathlib.Core.Bool.{Bool, true, false}
