@@ -1,20 +1,25 @@
 /*
- * Sarvoltig: a proved reader of rekordbox export.pdb files that arrive in blocks of 512 bytes.
+ * Sarvoltig: a proved reader of rekordbox files: of export.pdb files that arrive in blocks of 512 bytes, and of the beat grid
+ * of whole ANLZ files.
  *
- * The caller owns all memory: the image (the file's bytes), the map (one bit for each block) and the result (numbers). The
- * functions keep no state, allocate nothing and call nothing but memcpy and memset. Each answers every input: it returns a
- * code and writes the answer's values to the front of the result, as many as the result takes; the rest of it stays.
- * A result of SARVOLTIG_RESULT numbers takes every answer.
+ * The caller owns all memory: for an export the image (the file's bytes) and the map (one bit for each block), for an ANLZ
+ * file the file's bytes, and the result (numbers). The functions keep no state, allocate nothing and call nothing but memcpy
+ * and memset. Each answers every input: it returns a code and writes the answer's values to the front of the result, as many
+ * as the result takes; the rest of it stays. A result of SARVOLTIG_RESULT numbers takes every answer.
  *
- *     code        answer                                      values
- *     0           SARVOLTIG_DONE                              those of the function, below
- *     1 to 63     refused, by its number (docs/RULES.md, 2)   what the refusal carries, 0 where it carries nothing
- *     64          SARVOLTIG_SAME (deliveries)                 those of the function
- *     65          SARVOLTIG_WAITING (questions, lists)        rows found, pages walked, page that is waited for
+ *     code        answer                                           values
+ *     0           SARVOLTIG_DONE                                   those of the function, below
+ *     1 to 63     refused, by its number (docs/RULES.md, 2, 14)    what the refusal carries, 0 where it carries nothing
+ *     64          SARVOLTIG_SAME (deliveries)                      those of the function
+ *     65          SARVOLTIG_WAITING (questions, lists)             rows found, pages walked, page that is waited for
  *
  * A refusal changes no memory but the result. sarvoltig_rows, sarvoltig_record and sarvoltig_text walk the table's pages
  * from the first, so their time grows with the table. To read many rows, call sarvoltig_rows once and read them from its
  * list with sarvoltig_record_in and sarvoltig_text_in, which look at one page.
+ *
+ * An ANLZ file is asked with sarvoltig_beats and sarvoltig_beat as soon as all of it is there: it needs no opening, no image
+ * and no map, the file is only read, and no answer waits. Each call goes through all sections and all beats, so its time
+ * grows with the file.
  *
  * A slice is a pointer and the number of elements that it points to. What the caller has to keep:
  *   - a pointer is aligned for its type and not NULL, also where the number is 0;
@@ -36,7 +41,7 @@ extern "C" {
 /* Sizes. */
 enum {
     SARVOLTIG_BLOCK = 512,         /* bytes in a block */
-    SARVOLTIG_LONGEST = 268435456, /* bytes in the longest file */
+    SARVOLTIG_LONGEST = 268435456, /* bytes in the longest export */
     SARVOLTIG_RESULT = 22          /* numbers in the longest answer, a track's record */
 };
 
@@ -45,7 +50,7 @@ enum {
 
 /* Codes. */
 enum {
-    SARVOLTIG_DONE = 0, /* open, new, all pages walked, or found */
+    SARVOLTIG_DONE = 0, /* open, new, all pages walked, found, or counted */
     SARVOLTIG_SAME = 64,
     SARVOLTIG_WAITING = 65
 };
@@ -69,8 +74,13 @@ enum {
     SARVOLTIG_TEXT_FAULT = 15,    /* a string is malformed or outside: the page */
     SARVOLTIG_CHAIN_LOOP = 16,    /* a table's pages come back to one before the last */
     SARVOLTIG_LIST_SHORT = 17,    /* the list is shorter than the rows found: the rows found */
-    SARVOLTIG_NO_ROW = 18,        /* the table has no such record, or the list no such row */
-    SARVOLTIG_NO_SLOT = 19        /* the table's records have no such string slot */
+    SARVOLTIG_NO_ROW = 18,        /* the table has no such record, the list no such row, or the grid no such beat */
+    SARVOLTIG_NO_SLOT = 19,       /* the table's records have no such string slot */
+    SARVOLTIG_ANLZ_HEADER = 20,   /* the header of an ANLZ file is broken, or len_file is not the file's length */
+    SARVOLTIG_SECTION = 21,       /* a section is malformed or ends past the file, or bytes are left over behind the last */
+    SARVOLTIG_NO_GRID = 22,       /* no section is a beat grid, PQTZ */
+    SARVOLTIG_GRID_LENGTH = 23,   /* the grid's number of beats does not fill its tag exactly */
+    SARVOLTIG_BAR_POSITION = 24   /* the bar position of a beat, whichever it is, is not 1 to 4 */
 };
 
 /* Tables, with the values of their records. Every table but the playlist entries has strings: tracks 21 slots, the others slot 0. */
@@ -142,6 +152,13 @@ enum {
 enum {
     SARVOLTIG_ASCII = 0,
     SARVOLTIG_UTF16LE = 1
+};
+
+/* A beat. */
+enum {
+    SARVOLTIG_BEAT_BAR,   /* its position in the bar, 1 to 4 */
+    SARVOLTIG_BEAT_TEMPO, /* beats per minute, times 100 */
+    SARVOLTIG_BEAT_TIME   /* milliseconds from the track's start, at its normal speed */
 };
 
 /* String slots of a track. */
@@ -266,6 +283,26 @@ uint32_t sarvoltig_text_in(uint64_t len,
                            const uint32_t *list, size_t list_len,
                            uint64_t i, uint64_t slot,
                            uint64_t *result, size_t result_len);
+
+/*
+ * Asks for the number of beats in the beat grid of an ANLZ file, its first section PQTZ.
+ *
+ *     0           the number of beats
+ *     20 to 24    refused, by the first that applies. Each section and each beat of the grid is judged
+ */
+uint32_t sarvoltig_beats(const uint8_t *file, size_t file_len,
+                         uint64_t *result, size_t result_len);
+
+/*
+ * Asks for beat k of the beat grid of an ANLZ file, from 0. The whole file is judged, as by sarvoltig_beats.
+ *
+ *     0           the beat's position in its bar, tempo and time: SARVOLTIG_BEAT_..
+ *     20 to 24    refused, as by sarvoltig_beats
+ *     18          refused: k is not below the number of beats
+ */
+uint32_t sarvoltig_beat(const uint8_t *file, size_t file_len,
+                        uint64_t k,
+                        uint64_t *result, size_t result_len);
 
 #ifdef __cplusplus
 }

@@ -1,6 +1,6 @@
 /*
  * Calls each function of the library on a stack of its own that is filled with a pattern, and prints how deep it went, with
- * the arguments on the stack. Reads the export that the calls are about from standard input.
+ * the arguments on the stack. Reads the export that the calls are about from standard input; the ANLZ file is below.
  *
  * It has to be linked with -z now: otherwise the first call of memcpy goes through the dynamic linker, which takes more
  * stack than the library.
@@ -13,10 +13,14 @@
 #include "sarvoltig.h"
 
 enum { LEN = 27648, BLOCKS = LEN / SARVOLTIG_BLOCK, WORDS = SARVOLTIG_MAP_WORDS(LEN), ROOM = 1000, N = SARVOLTIG_RESULT };
-enum { OPEN, DELIVER, ROWS, RECORD, TEXT, RECORD_IN, TEXT_IN, CALLS };
+enum { OPEN, DELIVER, ROWS, RECORD, TEXT, RECORD_IN, TEXT_IN, BEATS, BEAT, CALLS };
 
-static const char *const names[] = {"sarvoltig_open", "sarvoltig_deliver",   "sarvoltig_rows",   "sarvoltig_record",
-                                    "sarvoltig_text", "sarvoltig_record_in", "sarvoltig_text_in"};
+static const char *const names[] = {"sarvoltig_open",    "sarvoltig_deliver", "sarvoltig_rows",
+                                    "sarvoltig_record",  "sarvoltig_text",    "sarvoltig_record_in",
+                                    "sarvoltig_text_in", "sarvoltig_beats",   "sarvoltig_beat"};
+/* An ANLZ file with a grid of one beat. */
+static const uint8_t anlz[] = {'P', 'M', 'A', 'I', 0, 0, 0, 12, 0, 0, 0, 44, 'P', 'Q', 'T', 'Z', 0, 0, 0, 24, 0, 0,
+                               0,   32,  0,   0,   0, 0, 0, 0,  0, 0, 0, 0,  0,   1,   0,   1,   0, 0, 0, 0,  0, 0};
 static uint8_t file[LEN], image[LEN], stack[1 << 16];
 static uint64_t map[WORDS], result[N];
 static uint32_t list[ROOM];
@@ -46,8 +50,14 @@ static void make_call(void)
     case RECORD_IN:
         sarvoltig_record_in(LEN, image, LEN, map, WORDS, SARVOLTIG_TRACKS, list, ROOM, 20, result, N);
         break;
-    default:
+    case TEXT_IN:
         sarvoltig_text_in(LEN, image, LEN, map, WORDS, SARVOLTIG_TRACKS, list, ROOM, 20, SARVOLTIG_SLOT_TITLE, result, N);
+        break;
+    case BEATS:
+        sarvoltig_beats(anlz, sizeof anlz, result, N);
+        break;
+    default:
+        sarvoltig_beat(anlz, sizeof anlz, 0, result, N);
     }
 }
 

@@ -1,5 +1,5 @@
-// The C interface: opening, delivery, the three questions and reading from a list, over numbers and slices. Each function
-// makes one call of the library and replies to its answer (crate c_replies).
+// The C interface, over numbers and slices: opening, delivery, the three questions, reading from a list, and the beat grid of
+// an ANLZ file. Each function makes one call of the library and replies to its answer (crates c_replies, c_beats).
 ghost use mathlib.Core.Path.{_≡_};
 ghost use Rattle.intake.specs.Open.{opening};
 ghost use Rattle.intake.specs.Memory.{memory};
@@ -8,8 +8,10 @@ ghost use Rattle.export.specs.Rows.{askRows};
 ghost use Rattle.export.specs.Record.{askRecord};
 ghost use Rattle.export.specs.Text.{askText};
 ghost use Rattle.export.specs.FromList.{askRecordIn, askTextIn};
-ghost use Rattle.c_replies.specs.Reply.{replyTo, Replied};
+ghost use Rattle.beat_grid.specs.Questions.{askBeats, askBeat};
+ghost use Rattle.c_reply.specs.Reply.{replyTo, Replied};
 ghost use Rattle.c_replies.specs.Replies.{openReply, deliverReply, walkReply, recordReply, textReply};
+ghost use Rattle.c_beats.specs.Replies.{beatsReply, beatReply};
 use intake::Intake;
 
 // Opens an intake for a file of len bytes.
@@ -156,4 +158,20 @@ pub extern "C" fn sarvoltig_text_in(
         ),
         result,
     )
+}
+
+// Asks for the number of beats in the grid of an ANLZ file.
+#[no_mangle]
+pub extern "C" fn sarvoltig_beats(file: &[u8], result: &mut [u64]) -> u32
+    ensures { λ r. ⌜ Replied (replyTo beatsReply (askBeats (now (file .entry)))) r (now (result .entry)) (now (result .exit)) ⌝ }
+{
+    c_beats::reply_beats(beat_grid::beats(file), result)
+}
+
+// Asks for beat k in the grid of an ANLZ file.
+#[no_mangle]
+pub extern "C" fn sarvoltig_beat(file: &[u8], k: u64, result: &mut [u64]) -> u32
+    ensures { λ r. ⌜ Replied (replyTo beatReply (askBeat (now (file .entry)) k)) r (now (result .entry)) (now (result .exit)) ⌝ }
+{
+    c_beats::reply_beat(beat_grid::beat(file, k), result)
 }

@@ -9,8 +9,8 @@ use Rattle.intake.specs.Deliver.{Taken, taken, new, same}
 use Rattle.chain.specs.Walk.{Progress, full, waiting}
 use Rattle.chain.specs.Found as row
 use Rattle.export.specs.Text.{TextPlace}
-use Rattle.c_replies.specs.Code as code
-use Rattle.c_replies.specs.Reply.{Reply, reply}
+use Rattle.c_reply.specs.Code as code
+use Rattle.c_reply.specs.Reply.{Reply, reply}
 
 abbrev pub openReply : OpenedFile → Reply
 openReply (opened len blocks) = reply code.done (blocks ∷ [])

@@ -1,5 +1,4 @@
-// The replies of the C interface: for each answer of the library a code, and the answer's values at the front of the
-// result, as many as it takes.
+// The replies of the C interface about an export: for each answer of the library its code and its values (crate c_reply).
 ghost use mathlib.Core.Path.{_≡_};
 ghost use mathlib.Core.List.{[], _∷_};
 ghost use Rattle.refusal.specs.Fault.{faultOf};
@@ -9,9 +8,10 @@ ghost use Rattle.intake.specs.Deliver.{deliveredOf};
 ghost use Rattle.chain.specs.Tally.{walkedOf};
 ghost use Rattle.export.specs.Record.{recordReplyOf};
 ghost use Rattle.export.specs.Text.{textReplyOf};
-ghost use Rattle.c_replies.specs.Code.{done};
-ghost use Rattle.c_replies.specs.Reply.{reply, replyTo, Replied};
+ghost use Rattle.c_reply.specs.Code.{done};
+ghost use Rattle.c_reply.specs.Reply.{reply, replyTo, Replied};
 ghost use Rattle.c_replies.specs.Replies.{openReply, deliverReply, waitReply, walkReply, recordReply, encodingNumber, textReply};
+use c_reply::Code;
 use chain::Walked;
 use export::RecordReply;
 use export::TextReply;
@@ -22,41 +22,19 @@ use row::Record;
 use row::Track;
 use text::Encoding;
 
-// Open, New, Full, Found.
-const DONE: u32 = 0;
-
-const SAME: u32 = 64;
-
-const WAITING: u32 = 65;
-
-// Writes the values to the front of the result, as many as it takes, and returns the code.
-fn put(code: u32, values: &[u64], result: &mut [u64]) -> u32
-    ensures { λ r. ⌜ Replied (reply code (now (values .entry))) r (now (result .entry)) (now (result .exit)) ⌝ }
-{
-    let mut i = 0;
-    while i < values.len() {
-        if result.len() <= i {
-            return code;
-        }
-        result[i] = values[i];
-        i += 1;
-    }
-    code
-}
-
 // The reply to a refusal: its number, and what it carries.
 fn refuse(refusal: Refusal, result: &mut [u64]) -> u32
     ensures { λ r. ⌜ Replied (reply (faultOf refusal .number) (faultOf refusal .carries ∷ [])) r (now (result .entry)) (now (result .exit)) ⌝ }
 {
     let fault = refusal.fault();
-    put(fault.number, &[fault.carries], result)
+    c_reply::put(fault.number, &[fault.carries], result)
 }
 
 // The reply of an answer that waits for a page.
 fn wait(page: u32, rows: usize, pages: u64, result: &mut [u64]) -> u32
     ensures { λ r. ⌜ Replied (waitReply page rows pages) r (now (result .entry)) (now (result .exit)) ⌝ }
 {
-    put(WAITING, &[rows as u64, pages, page as u64], result)
+    c_reply::put(Code::WAITING, &[rows as u64, pages, page as u64], result)
 }
 
 // The reply of an opening.
@@ -64,7 +42,7 @@ pub fn reply_opened(answer: Opened, result: &mut [u64]) -> u32
     ensures { λ r. ⌜ Replied (replyTo openReply (openedOf answer)) r (now (result .entry)) (now (result .exit)) ⌝ }
 {
     match answer {
-        Opened::Open { intake: _, blocks } => put(DONE, &[blocks], result),
+        Opened::Open { intake: _, blocks } => c_reply::put(Code::DONE, &[blocks], result),
         Opened::Refused(refusal) => refuse(refusal, result),
     }
 }
@@ -74,8 +52,8 @@ pub fn reply_delivered(answer: Delivered, result: &mut [u64]) -> u32
     ensures { λ r. ⌜ Replied (replyTo deliverReply (deliveredOf answer)) r (now (result .entry)) (now (result .exit)) ⌝ }
 {
     match answer {
-        Delivered::New(count) => put(DONE, &[count], result),
-        Delivered::Same(count) => put(SAME, &[count], result),
+        Delivered::New(count) => c_reply::put(Code::DONE, &[count], result),
+        Delivered::Same(count) => c_reply::put(Code::SAME, &[count], result),
         Delivered::Refused(refusal) => refuse(refusal, result),
     }
 }
@@ -85,7 +63,7 @@ pub fn reply_walked(answer: Walked, result: &mut [u64]) -> u32
     ensures { λ r. ⌜ Replied (replyTo walkReply (walkedOf answer)) r (now (result .entry)) (now (result .exit)) ⌝ }
 {
     match answer {
-        Walked::Full { rows, pages } => put(DONE, &[rows as u64, pages], result),
+        Walked::Full { rows, pages } => c_reply::put(Code::DONE, &[rows as u64, pages], result),
         Walked::Waiting { page, rows, pages } => wait(page, rows, pages, result),
         Walked::Refused(refusal) => refuse(refusal, result),
     }
@@ -119,13 +97,13 @@ fn put_track(track: Track, result: &mut [u64]) -> u32
         track.color_id as u64,
         track.rating as u64,
     ];
-    put(DONE, &numbers, result)
+    c_reply::put(Code::DONE, &numbers, result)
 }
 
 fn put_id(id: u32, result: &mut [u64]) -> u32
     ensures { λ r. ⌜ Replied (reply done (id ∷ [])) r (now (result .entry)) (now (result .exit)) ⌝ }
 {
-    put(DONE, &[id as u64], result)
+    c_reply::put(Code::DONE, &[id as u64], result)
 }
 
 fn put_record(record: Record, result: &mut [u64]) -> u32
@@ -135,7 +113,11 @@ fn put_record(record: Record, result: &mut [u64]) -> u32
         Record::Track(track) => put_track(track, result),
         Record::Genre { id } => put_id(id, result),
         Record::Artist { id } => put_id(id, result),
-        Record::Album { artist_id, id } => put(DONE, &[artist_id as u64, id as u64], result),
+        Record::Album { artist_id, id } => c_reply::put(
+            Code::DONE,
+            &[artist_id as u64, id as u64],
+            result,
+        ),
         Record::Label { id } => put_id(id, result),
         Record::Key { id } => put_id(id, result),
         Record::Color { id } => put_id(id as u32, result),
@@ -144,8 +126,8 @@ fn put_record(record: Record, result: &mut [u64]) -> u32
             sort_order,
             id,
             raw_is_folder,
-        } => put(
-            DONE,
+        } => c_reply::put(
+            Code::DONE,
             &[
                 parent_id as u64,
                 sort_order as u64,
@@ -158,8 +140,8 @@ fn put_record(record: Record, result: &mut [u64]) -> u32
             entry_index,
             track_id,
             playlist_id,
-        } => put(
-            DONE,
+        } => c_reply::put(
+            Code::DONE,
             &[entry_index as u64, track_id as u64, playlist_id as u64],
             result,
         ),
@@ -196,8 +178,8 @@ pub fn reply_text(answer: TextReply, result: &mut [u64]) -> u32
             place,
             len,
             encoding,
-        } => put(
-            DONE,
+        } => c_reply::put(
+            Code::DONE,
             &[place as u64, len as u64, encoding_number(encoding)],
             result,
         ),

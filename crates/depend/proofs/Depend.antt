@@ -6,7 +6,7 @@ use Prim.Native.Nat.{ℕ}
 use lib.ListN.{length}
 use lib.Dec.{ltb}
 use Rattle.lists.specs.Alias.{Bytes, Words, Places}
-use Rattle.number.specs.Agree.{Agree}
+use Rattle.number.specs.Agree.{Agree, DecidedBy}
 use Rattle.refusal.specs.Answer.{Answer, given, refused, andThen}
 use Rattle.table.specs.declared.Table.{Table}
 use Rattle.table.specs.Table.{slotCount}
@@ -19,7 +19,7 @@ use Rattle.export.specs.Record.{tableRecord, askRecord}
 use Rattle.export.specs.Text.{tableText, askText}
 use Rattle.run.specs.Call.{Question, allRows, oneRecord, oneText, rows, row, text}
 use Rattle.depend.specs.Bytes.{relevantIn, relevant}
-use Rattle.depend.specs.Depend.{answerOn, DecidedBy, SameRows, EveryQuestion}
+use Rattle.depend.specs.Depend.{answerOn, SameRows, EveryQuestion}
 use Rattle.lists.proofs.Choice.{on}
 use Rattle.number.proofs.NumberAgree.{agree-less}
 use Rattle.table_walk.proofs.AskedTable.{asked-sound}

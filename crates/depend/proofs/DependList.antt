@@ -10,7 +10,7 @@ use borrow.Author.Tests.{eqb-true}
 use Rattle.lists.specs.Alias.{Bytes, Words, Places}
 use Rattle.lists.proofs.Choice.{on, both-true}
 use Rattle.format.specs.Place.{linkable}
-use Rattle.number.specs.Agree.{Agree}
+use Rattle.number.specs.Agree.{Agree, DecidedBy}
 use Rattle.number.proofs.NumberAgree.{agree-less}
 use Rattle.refusal.specs.declared.Fault.{Fault}
 use Rattle.refusal.specs.Answer.{Answer, given, refused, andThen}
@@ -18,7 +18,6 @@ use Rattle.table.specs.declared.Table.{Table}
 use Rattle.table.specs.Table.{slotCount}
 use Rattle.page.specs.Bytes.{oneRowByte}
 use Rattle.bitmap.specs.Bit.{bit}
-use Rattle.intake.specs.Check.{checkLengths, checkCall}
 use Rattle.intake.specs.Memory.{Memory, memory, blockAt}
 use Rattle.intake.specs.InUse.{SameInUse}
 use Rattle.intake.proofs.PastInUse.{call-agree}
@@ -37,7 +36,6 @@ use Rattle.run.specs.Call.{row, text}
 use Rattle.run.proofs.ListKept.{record-in-same, text-in-same}
 use Rattle.depend.specs.Bytes.{pageAt, pageWith, firstBlockByte}
 use Rattle.depend.specs.Unread.{heldByte}
-use Rattle.depend.specs.Depend.{DecidedBy}
 use Rattle.depend.specs.ListBytes.{Reading, recordFrom, textFrom, readAnswer, elementReads, elementByte, listByte, listByteIn, readRelevant}
 use Rattle.depend.specs.DependList.{readOn, EveryReading}
 use Rattle.depend.proofs.Depend.{asked-same}

@@ -2,11 +2,11 @@
 --     listed-agree               the row that the element names
 --     record-agrees, text-agrees     what is read from it
 -- Rests on the agreement laws of crates `directory`, `page` and `row`.
-use mathlib.Core.Path.{_≡_, refl, sym, ap, _∙_}
-use mathlib.Core.Bool.{true, false, _&&_}
+use mathlib.Core.Path.{_≡_, refl, ap, _∙_}
+use mathlib.Core.Bool.{true}
 use Prim.Native.Nat.{ℕ, _+_, _*_, _/_, _%_, _<_}
 use lib.ListN.{length, getD}
-use lib.Dec.{leb, ltb, eqb}
+use lib.Dec.{leb, ltb}
 use borrow.Author.Tests.{eq-eqb, lt-ltb, leb-false}
 use Rattle.lists.specs.Alias.{Bytes, Words, Places}
 use Rattle.lists.proofs.Choice.{on, or-left, or-right}
@@ -42,7 +42,7 @@ use Rattle.export.specs.FromList.{tableListed, recordListed, textListed}
 use Rattle.export.proofs.ListedRow.{ListedRow, then-listed}
 use Rattle.depend.specs.Bytes.{firstBlockByte}
 use Rattle.depend.specs.ListBytes.{elementReads, elementByte, listByte}
-use Rattle.depend.proofs.PartAgree.{part-agree, block-agree, size-same}
+use Rattle.depend.proofs.PartAgree.{page-part-agree, block-agree, size-same}
 
 module _ (len : ℕ) (map : Words) (s t : Bytes) (table : Table) (list : Places) (element : ℕ)
     (a : Agree (listByte len (memory s map) table list element) s t) where
@@ -78,7 +78,7 @@ module _ (len : ℕ) (map : Words) (s t : Bytes) (table : Table) (list : Places)
 
   page-agree : elementReads len m list element ≡ true
       → Agree (oneRowByte number table (pagePart size s number) start (rank size list element)) (pagePart size s number) (pagePart size t number)
-  page-agree r = part-agree a size number (oneRowByte number table (pagePart size s number) start (rank size list element)) (page-byte r)
+  page-agree r = page-part-agree a size number (oneRowByte number table (pagePart size s number) start (rank size list element)) (page-byte r)
 
   listed-agree : tableListed len m list element table ≡ tableListed len n list element table
   unfolding tableListed listedPlace

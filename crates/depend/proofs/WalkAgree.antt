@@ -24,7 +24,7 @@ use Rattle.directory.proofs.ChainAnswer.{chain-given}
 use Rattle.chain.proofs.PagePart.{page-of, start-of}
 use Rattle.chain.proofs.FileAgree.{PageAgrees, chain-walk-agree}
 use Rattle.table_walk.proofs.PageWalked.{reads-table}
-use Rattle.depend.proofs.PartAgree.{part-agree, block-agree, size-same}
+use Rattle.depend.proofs.PartAgree.{page-part-agree, block-agree, size-same}
 
 module _ (len : ℕ) (map : Words) (s t : Bytes) (table : Table) (a : Agree (tableByte len (memory s map) table) s t) where
   abbrev m : Memory
@@ -46,7 +46,7 @@ module _ (len : ℕ) (map : Words) (s t : Bytes) (table : Table) (a : Agree (tab
       or-right (firstBlockByte m (q * size + i)) (simp (page-of size q i h, start-of size q i h, r, e))
 
   pub page-agree : (q : ℕ) → tableReads len m table q ≡ true → PageAgrees table s t (pageSize m) q
-  page-agree q r = part-agree a (pageSize m) q (pageByte q table (pagePart (pageSize m) s q)) (λ i h e. page-byte q i r h e)
+  page-agree q r = page-part-agree a (pageSize m) q (pageByte q table (pagePart (pageSize m) s q)) (λ i h e. page-byte q i r h e)
 
   pub walk-agree : tableWalk len m table ≡ tableWalk len (memory t map) table
   unfolding tableWalk

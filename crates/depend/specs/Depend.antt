@@ -1,11 +1,11 @@
 -- Section 7 as one theorem about the three questions (`EveryQuestion`): what the answer, and the list afterwards, may depend on.
 -- Rests on the relevant bytes (specs/Bytes) and on those that are unread (specs/Unread).
 use mathlib.Core.Path.{_≡_}
-use mathlib.Core.Bool.{Bool, not}
+use mathlib.Core.Bool.{not}
 use Prim.Native.Nat.{ℕ}
 use lib.ListN.{length, drop}
 use Rattle.lists.specs.Alias.{Bytes, Words, Places}
-use Rattle.number.specs.Agree.{Agree}
+use Rattle.number.specs.Agree.{DecidedBy}
 use Rattle.intake.specs.Memory.{memory}
 use Rattle.intake.specs.InUse.{SameInUse}
 use Rattle.export.specs.Rows.{RowsOutcome, rowsWritten, askRows}
@@ -16,10 +16,6 @@ use Rattle.depend.specs.Unread.{heldByte, unreadFor}
 -- what a question answers over this image with this map; for all rows also the list afterwards
 abbrev pub answerOn : (len : ℕ) (map : Words) (q : Question) (image : Bytes) → CallReply
 answerOn len map q image = answer len (memory image map) q
-
--- every image as long as this one that has the same bytes wherever the test holds gives the same answer and the same list
-abbrev pub DecidedBy : {A : Type 0} (test : ℕ → Bool) (answer : Bytes → A) (image : Bytes) → Type 0
-DecidedBy test answer image = (other : Bytes) → Agree test image other → answer image ≡ answer other
 
 -- Rule 7.13: two questions with these lists answer alike; where the lists agree behind the rows written, so do they afterwards
 pub record SameRows (list other : Places) (a b : RowsOutcome) : Type 0 where

@@ -6,7 +6,7 @@ use Rattle.intake.specs.Memory.{memory}
 use Rattle.intake.specs.InUse.{SameInUse}
 use Rattle.run.specs.Call.{CallReply}
 use Rattle.depend.specs.Unread.{heldByte}
-use Rattle.depend.specs.Depend.{DecidedBy}
+use Rattle.number.specs.Agree.{DecidedBy}
 use Rattle.depend.specs.ListBytes.{Reading, readAnswer, readRelevant}
 
 abbrev pub readOn : (len : ℕ) (map : Words) (r : Reading) (image : Bytes) → CallReply

@@ -1,10 +1,10 @@
--- Rules 1.2, 1.3: numbers at and past the end of some bytes, and the four bytes of a number.
+-- Rules 1.2, 1.3 and 14.1: numbers at and past the end of some bytes, the four bytes of a number, and how great it is.
 use mathlib.Core.Path.{_≡_, ap}
 use Prim.Native.Nat.{ℕ, _+_, _-_, _*_, _<_, _≤_}
 use native.Mathlib.Omega.{arith}
 use lib.ListN.{length, List·getD-eq-default}
 use Rattle.lists.specs.Alias.{Bytes}
-use Rattle.number.specs.Number.{byteAt, le16, le32}
+use Rattle.number.specs.Number.{byteAt, le16, le32, be16, be32}
 
 module _ (s : Bytes) (at : ℕ) where
   pub byte-past : length s ≤ at → byteAt s at ≡ 0
@@ -27,3 +27,19 @@ le32-past s at h = omega (arith, le16-past s at h, le16-past s (at + 2) (omega a
 pub le32-bytes : (s : Bytes) (at : ℕ) → le32 s at ≡ byteAt s at + 256 * byteAt s (at + 1) + 65536 * byteAt s (at + 2) + 16777216 * byteAt s (at + 3)
 unfolding le32 le16
 le32-bytes s at = let e : byteAt s (at + 2 + 1) ≡ byteAt s (at + 3) = ap (λ (k : ℕ). byteAt s k) (omega arith) in omega arith
+
+pub be16-past : (s : Bytes) (at : ℕ) → length s ≤ at → be16 s at ≡ 0
+unfolding be16
+be16-past s at h = omega (arith, byte-past s at h, byte-past s (at + 1) (omega arith))
+
+pub be32-past : (s : Bytes) (at : ℕ) → length s ≤ at → be32 s at ≡ 0
+unfolding be32
+be32-past s at h = omega (arith, be16-past s at h, be16-past s (at + 2) (omega arith))
+
+pub be32-bytes : (s : Bytes) (at : ℕ) → be32 s at ≡ 16777216 * byteAt s at + 65536 * byteAt s (at + 1) + 256 * byteAt s (at + 2) + byteAt s (at + 3)
+unfolding be32 be16
+be32-bytes s at = let e : byteAt s (at + 2 + 1) ≡ byteAt s (at + 3) = ap (λ (k : ℕ). byteAt s k) (omega arith) in omega arith
+
+-- four bytes make a number below 2^32
+pub be32-fits : (s : Bytes) (at : ℕ) → ((i : ℕ) → byteAt s i < 256) → be32 s at < 0x1_0000_0000
+be32-fits s at low = omega (arith, be32-bytes s at, low at, low (at + 1), low (at + 2), low (at + 3))

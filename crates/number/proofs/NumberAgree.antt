@@ -1,5 +1,5 @@
--- Section 7: agreement on relevant bytes gives equal numbers (byte-agree, le16-agree, le32-agree), and agreement of a whole that of its
--- parts (drop-agree, take-agree) and of fewer bytes (agree-less, agree-inside).
+-- Section 7: agreement on relevant bytes gives equal numbers (byte-agree, two-agree, four-agree and, from these, le16-agree to be32-agree), and agreement of a whole that of its
+-- parts (drop-agree, take-agree, part-agree) and of fewer bytes (agree-less, agree-inside).
 use mathlib.Core.Path.{_≡_, sym, _∙_}
 use mathlib.Core.Bool.{Bool, true, false, _&&_}
 use Prim.Native.Nat.{ℕ, _+_, _*_, _<_, _≤_}
@@ -9,9 +9,9 @@ use lib.Seq.{getD-drop, getD-take}
 use lib.Dec.{ltb, leb}
 use borrow.Author.Tests.{le-leb, lt-ltb, ltb-true, ltb-false, leb-true}
 use Rattle.lists.specs.Alias.{Bytes}
-use Rattle.number.specs.Number.{byteAt, le16, le32}
+use Rattle.number.specs.Number.{byteAt, le16, le32, be16, be32}
 use Rattle.number.specs.Agree.{Agree, within}
-use Rattle.number.proofs.Number.{byte-past, le32-bytes}
+use Rattle.number.proofs.Number.{byte-past, le32-bytes, be32-bytes}
 use Rattle.lists.proofs.Choice.{on, both-true}
 
 pub within-true : (from size i : ℕ) → from ≤ i → i < from + size → within from size i ≡ true
@@ -42,20 +42,34 @@ module _ {s t : Bytes} (at : ℕ) where
   pub byte-agree : Agree (within at 1) s t → byteAt s at ≡ byteAt t at
   byte-agree a = a .same at (within-true at 1 at (omega arith) (omega arith))
 
+  byte : (k n : ℕ) → k < n → Agree (within at n) s t → byteAt s (at + k) ≡ byteAt t (at + k)
+  byte k n h a = a .same (at + k) (within-true at n (at + k) (omega arith) (omega arith))
+
+  first : (n : ℕ) → 0 < n → Agree (within at n) s t → byteAt s at ≡ byteAt t at
+  first n h a = a .same at (within-true at n at (omega arith) (omega arith))
+
+  -- whatever is made of two bytes, or of four
+  pub two-agree : (f : ℕ → ℕ → ℕ) → Agree (within at 2) s t → f (byteAt s at) (byteAt s (at + 1)) ≡ f (byteAt t at) (byteAt t (at + 1))
+  two-agree f a = rw (first 2 (omega arith) a, byte 1 2 (omega arith) a)
+
+  pub four-agree : (f : ℕ → ℕ → ℕ → ℕ → ℕ) → Agree (within at 4) s t
+      → f (byteAt s at) (byteAt s (at + 1)) (byteAt s (at + 2)) (byteAt s (at + 3))
+      ≡ f (byteAt t at) (byteAt t (at + 1)) (byteAt t (at + 2)) (byteAt t (at + 3))
+  four-agree f a = rw (first 4 (omega arith) a, byte 1 4 (omega arith) a, byte 2 4 (omega arith) a, byte 3 4 (omega arith) a)
+
   pub le16-agree : Agree (within at 2) s t → le16 s at ≡ le16 t at
   unfolding le16
-  le16-agree a =
-      rw (a .same at (within-true at 2 at (omega arith) (omega arith)), a .same (at + 1) (within-true at 2 (at + 1) (omega arith) (omega arith)))
+  le16-agree a = two-agree (λ (low high : ℕ). low + 256 * high) a
 
   pub le32-agree : Agree (within at 4) s t → le32 s at ≡ le32 t at
-  le32-agree a = le32-bytes s at ∙ each ∙ sym (le32-bytes t at)
-    where
-      byte : (k : ℕ) → k < 4 → byteAt s (at + k) ≡ byteAt t (at + k)
-      byte k h = a .same (at + k) (within-true at 4 (at + k) (omega arith) (omega arith))
+  le32-agree a = le32-bytes s at ∙ four-agree (λ (a b c d : ℕ). a + 256 * b + 65536 * c + 16777216 * d) a ∙ sym (le32-bytes t at)
 
-      each : byteAt s at + 256 * byteAt s (at + 1) + 65536 * byteAt s (at + 2) + 16777216 * byteAt s (at + 3)
-          ≡ byteAt t at + 256 * byteAt t (at + 1) + 65536 * byteAt t (at + 2) + 16777216 * byteAt t (at + 3)
-      each = rw (a .same at (within-true at 4 at (omega arith) (omega arith)), byte 1 (omega arith), byte 2 (omega arith), byte 3 (omega arith))
+  pub be16-agree : Agree (within at 2) s t → be16 s at ≡ be16 t at
+  unfolding be16
+  be16-agree a = two-agree (λ (high low : ℕ). 256 * high + low) a
+
+  pub be32-agree : Agree (within at 4) s t → be32 s at ≡ be32 t at
+  be32-agree a = be32-bytes s at ∙ four-agree (λ (a b c d : ℕ). 16777216 * a + 65536 * b + 256 * c + d) a ∙ sym (be32-bytes t at)
 
 -- a part's byte i is the whole's byte a + i
 pub drop-agree : {p : ℕ → Bool} {s t : Bytes} (a : ℕ) → Agree p s t → Agree (λ i. p (a + i)) (drop a s) (drop a t)
@@ -83,3 +97,13 @@ take-agree {p} {s} {t} n a =
     past : (i : ℕ) → n ≤ i → byteAt (take n s) i ≡ byteAt (take n t) i
     past i h =
         byte-past (take n s) i (omega (arith, length-take n s)) ∙ sym (byte-past (take n t) i (omega (arith, length-take n t)))
+
+-- byte i of the part is byte place + i of the whole
+pub part-agree : {whole part : ℕ → Bool} {s t : Bytes} (place size : ℕ) → ((i : ℕ) → i < size → part i ≡ true → whole (place + i) ≡ true)
+    → Agree whole s t → Agree part (take size (drop place s)) (take size (drop place t))
+part-agree {whole} {part} {s} place size f a = agree-inside (agree-less byte (take-agree size (drop-agree place a)))
+  where
+    byte : (i : ℕ) → (ltb i (length (take size (drop place s))) && part i) ≡ true → whole (place + i) ≡ true
+    byte i e =
+        let both = both-true (ltb i (length (take size (drop place s)))) (part i) e in
+        f i (omega (arith, ltb-true i (length (take size (drop place s))) (both .0), length-take size (drop place s))) (both .1)

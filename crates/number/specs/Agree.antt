@@ -16,3 +16,7 @@ within from size i = leb from i && ltb i (from + size)
 pub record Agree (relevant : ℕ → Bool) (s t : Bytes) : Type 0 where
   pub long : length s ≡ length t
   pub same : (i : ℕ) → relevant i ≡ true → byteAt s i ≡ byteAt t i
+
+-- every list as long as this one that has the same bytes wherever the test holds gives the same answer
+abbrev pub DecidedBy : {A : Type 0} (test : ℕ → Bool) (answer : Bytes → A) (bytes : Bytes) → Type 0
+DecidedBy test answer bytes = (other : Bytes) → Agree test bytes other → answer bytes ≡ answer other

@@ -1,7 +1,7 @@
-// Little-endian numbers in a byte slice. A byte past the slice's end counts as 0.
+// Little-endian and big-endian numbers in a byte slice. A byte past the slice's end counts as 0.
 ghost use mathlib.Core.Path.{_≡_};
 ghost use Prim.Native.Nat.{_+_, _*_};
-ghost use Rattle.number.specs.Number.{byteAt, le16, le32};
+ghost use Rattle.number.specs.Number.{byteAt, le16, le32, be16, be32};
 
 // The byte at an offset, 0 past the end.
 pub fn byte_at(s: &[u8], at: usize) -> u8
@@ -46,4 +46,24 @@ pub fn u32_at(s: &[u8], at: usize) -> u32
         return double(u16_at(s, at), u16_at(s, at + 2));
     }
     double(pair(s[at], s[at + 1]), pair(s[at + 2], s[at + 3]))
+}
+
+// The number in the two bytes at an offset, the high one first.
+pub fn u16_be_at(s: &[u8], at: usize) -> u16
+    ensures { λ r. ⌜ r ≡ be16 (now (s .entry)) at ⌝ }
+{
+    if s.len() <= at {
+        return 0;
+    }
+    pair(byte_at(s, at + 1), s[at])
+}
+
+// The number in the four bytes at an offset, the high one first.
+pub fn u32_be_at(s: &[u8], at: usize) -> u32
+    ensures { λ r. ⌜ r ≡ be32 (now (s .entry)) at ⌝ }
+{
+    if s.len() <= at {
+        return 0;
+    }
+    double(u16_be_at(s, at + 2), u16_be_at(s, at))
 }

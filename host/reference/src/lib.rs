@@ -1,10 +1,11 @@
 //! An independent reference of the reader of `export.pdb` files that arrive in
-//! blocks. It is written from the rules alone (docs/RULES.md, whose numbers the
-//! comments cite) and shares nothing with the proved code, so that the two can
-//! be compared.
+//! blocks, and of the reader of whole ANLZ files. It is written from the rules
+//! alone (docs/RULES.md, whose numbers the comments cite) and shares nothing
+//! with the proved code, so that the two can be compared.
 //!
-//! [`model`] is the reference. [`generate`] and [`damage`] make files for it,
-//! [`schedule`] makes runs of calls, as values and as lines of text.
+//! [`model`] is the reference for exports. [`generate`] and [`damage`] make
+//! files for it. [`anlz`] has all three for ANLZ files. [`schedule`] makes runs
+//! of calls, as values and as lines of text.
 //!
 //! ```
 //! use sarvoltig_reference::{generate, model::{Rows, Session}};
@@ -23,6 +24,7 @@
 #![forbid(unsafe_code)]
 #![deny(missing_docs)]
 
+pub mod anlz;
 pub mod damage;
 pub mod generate;
 mod layout;

@@ -1,9 +1,12 @@
-//! A proved reader of rekordbox `export.pdb` files that arrive in blocks of 512 bytes, late, repeated, misnumbered or cut.
+//! A proved reader of rekordbox files: of `export.pdb` files that arrive in blocks of 512 bytes, late, repeated,
+//! misnumbered or cut, and of the beat grid of whole ANLZ files.
 //!
 //! An [`Intake`] stands over an image and a map that the caller owns. Blocks are delivered as they come, and questions
 //! are asked at any time: all rows of a table, a record, a string of a record. An answer is complete, or waits at the
 //! first page that is not wholly there, or is a [`Refusal`], which changes no memory. A question for one record walks its
 //! whole table; the rows of [`Intake::rows`] are read from their list, each on its own page.
+//!
+//! [`Anlz`] stands over the bytes of an ANLZ file and answers its number of beats and each beat, or refuses.
 //!
 //! The work is done by the library `lib/libsarvoltig.a`, whose functions are proved; this crate names its numbers.
 //! Rules are cited by their numbers in docs/RULES.md.
@@ -27,6 +30,7 @@
 #![deny(missing_docs)]
 #![deny(unsafe_op_in_unsafe_fn)]
 
+mod anlz;
 mod intake;
 pub mod raw;
 mod record;
@@ -35,6 +39,7 @@ mod rows;
 mod table;
 mod text;
 
+pub use anlz::{Anlz, Beat, BeatIter};
 pub use intake::{map_words, Delivered, Intake, Reply, Walk, BLOCK};
 pub use record::{Record, Track};
 pub use refusal::Refusal;

@@ -1,11 +1,11 @@
-//! The seven functions of the proved library over numbers and slices, as `include/sarvoltig.h` has them.
+//! The nine functions of the proved library over numbers and slices, as `include/sarvoltig.h` has them.
 //!
 //! Each returns a code: [`DONE`], [`SAME`], [`WAITING`], or a refusal's number. The answer's values go to the
 //! front of `result`, as many as it takes; [`RESULT`] words take every answer.
 
 /// Words that take the values of every answer: the 22 numbers of a track.
 pub const RESULT: usize = 22;
-/// Code of Open, New, Full and Found.
+/// Code of Open, New, Full, Found, and of a number of beats.
 pub const DONE: u32 = 0;
 /// Code of a delivery of a held block with the same bytes.
 pub const SAME: u32 = 64;
@@ -95,6 +95,19 @@ mod c {
             list_len: usize,
             i: u64,
             slot: u64,
+            result: *mut u64,
+            result_len: usize,
+        ) -> u32;
+        pub fn sarvoltig_beats(
+            file: *const u8,
+            file_len: usize,
+            result: *mut u64,
+            result_len: usize,
+        ) -> u32;
+        pub fn sarvoltig_beat(
+            file: *const u8,
+            file_len: usize,
+            k: u64,
             result: *mut u64,
             result_len: usize,
         ) -> u32;
@@ -267,6 +280,39 @@ pub fn text_in(
             list.len(),
             i,
             slot,
+            result.as_mut_ptr(),
+            result.len(),
+        )
+    }
+}
+
+/// Asks for the number of beats of an ANLZ file. Value: the number.
+///
+/// ```
+/// // a file header alone: no section is a beat grid
+/// let file = b"PMAI\0\0\0\x0c\0\0\0\x0c";
+/// let mut result = [7; 2];
+/// assert_eq!(sarvoltig::raw::beats(file, &mut result), 22);
+/// assert_eq!(result, [0, 7]);
+/// ```
+pub fn beats(file: &[u8], result: &mut [u64]) -> u32 {
+    // SAFETY: as in `open`.
+    unsafe { c::sarvoltig_beats(file.as_ptr(), file.len(), result.as_mut_ptr(), result.len()) }
+}
+
+/// Asks for beat `k` of an ANLZ file. Values: bar position, tempo times 100, milliseconds.
+///
+/// ```
+/// // no PMAI at the start
+/// assert_eq!(sarvoltig::raw::beat(b"RIFF", 0, &mut []), 20);
+/// ```
+pub fn beat(file: &[u8], k: u64, result: &mut [u64]) -> u32 {
+    // SAFETY: as in `open`.
+    unsafe {
+        c::sarvoltig_beat(
+            file.as_ptr(),
+            file.len(),
+            k,
             result.as_mut_ptr(),
             result.len(),
         )

@@ -1,4 +1,4 @@
-//! Refusals: their numbers (rules 2.1 to 2.19) as an error type.
+//! Refusals: their numbers (sections 2 and 14 of docs/RULES.md) as an error type.
 
 use std::error::Error;
 use std::fmt;
@@ -51,10 +51,20 @@ pub enum Refusal {
     ChainLoop,
     /// 17: the list is too short; the rows found.
     ListShort(u64),
-    /// 18: the table has no such row, or the list does not have it there.
+    /// 18: the table has no such row, the list does not have it there, or the beat grid has no such beat.
     NoRow,
     /// 19: the table has no such string slot.
     NoSlot,
+    /// 20: the header of an ANLZ file is broken, or its len_file is not the file's length.
+    AnlzHeader,
+    /// 21: a section of an ANLZ file is malformed or leaves the file.
+    Section,
+    /// 22: an ANLZ file has no beat grid.
+    NoGrid,
+    /// 23: the number of beats does not fit the beat grid's length.
+    GridLength,
+    /// 24: the bar position of some beat is not 1 to 4.
+    BarPosition,
     /// A number that this version does not know.
     Other {
         /// The refusal's number.
@@ -65,7 +75,7 @@ pub enum Refusal {
 }
 
 impl Refusal {
-    /// The refusal of a number (rules 2.1 to 2.19) with what it carries.
+    /// The refusal of a number with what it carries.
     #[must_use]
     pub fn new(number: u32, carries: u64) -> Self {
         match number {
@@ -88,11 +98,16 @@ impl Refusal {
             17 => Self::ListShort(carries),
             18 => Self::NoRow,
             19 => Self::NoSlot,
+            20 => Self::AnlzHeader,
+            21 => Self::Section,
+            22 => Self::NoGrid,
+            23 => Self::GridLength,
+            24 => Self::BarPosition,
             _ => Self::Other { number, carries },
         }
     }
 
-    /// Its number (rules 2.1 to 2.19).
+    /// Its number.
     #[must_use]
     pub fn number(self) -> u32 {
         match self {
@@ -115,6 +130,11 @@ impl Refusal {
             Self::ListShort(_) => 17,
             Self::NoRow => 18,
             Self::NoSlot => 19,
+            Self::AnlzHeader => 20,
+            Self::Section => 21,
+            Self::NoGrid => 22,
+            Self::GridLength => 23,
+            Self::BarPosition => 24,
             Self::Other { number, .. } => number,
         }
     }
@@ -134,7 +154,14 @@ impl Refusal {
         }
     }
 
-    /// Whether it is a fault of the file's own (9 to 16), which every later question on the table meets again.
+    /// Whether it is a fault of the export's own (9 to 16), which every later question on the table meets again.
+    /// The faults of an ANLZ file (20 to 24) are not meant: no block of it is yet to come.
+    ///
+    /// ```
+    /// use sarvoltig::Refusal;
+    /// assert!(Refusal::FileHeader.is_file_fault());
+    /// assert!(!Refusal::AnlzHeader.is_file_fault());
+    /// ```
     #[must_use]
     pub fn is_file_fault(self) -> bool {
         (9..=16).contains(&self.number())
@@ -162,8 +189,13 @@ impl fmt::Display for Refusal {
             Self::TextFault(page) => write!(f, "a string of page {page} is malformed"),
             Self::ChainLoop => write!(f, "the chain meets a page twice"),
             Self::ListShort(rows) => write!(f, "the list is too short for {rows} rows"),
-            Self::NoRow => write!(f, "there is no such row"),
+            Self::NoRow => write!(f, "there is no such row or beat"),
             Self::NoSlot => write!(f, "the table has no such string slot"),
+            Self::AnlzHeader => write!(f, "the header of the ANLZ file is broken"),
+            Self::Section => write!(f, "a section of the ANLZ file is malformed"),
+            Self::NoGrid => write!(f, "the ANLZ file has no beat grid"),
+            Self::GridLength => write!(f, "the number of beats does not fit the beat grid"),
+            Self::BarPosition => write!(f, "the bar position of a beat is not 1 to 4"),
             Self::Other { number, carries } => write!(f, "refusal {number} with {carries}"),
         }
     }

@@ -2,7 +2,7 @@
 
 use crate::library::Library;
 use sarvoltig_reference::model::Session;
-use sarvoltig_reference::schedule::{compared_run, Call, Run};
+use sarvoltig_reference::schedule::{Call, Run};
 
 /// Bytes of an image that are compared for each call, on the average.
 const COMPARED: usize = 1 << 18;
@@ -30,6 +30,7 @@ pub fn difference(calls: &[Call]) -> Option<String> {
         let same = found.as_ref() == Ok(&expected)
             && library.map() == session.map()
             && library.list() == run.list()
+            && library.anlz() == run.anlz()
             && (!compared || library.image() == session.image());
         if compared {
             due = 0;
@@ -45,9 +46,19 @@ pub fn difference(calls: &[Call]) -> Option<String> {
 }
 
 /// Compares the runs of these seeds. The first that differs, if one does.
+///
+/// ```
+/// use sarvoltig_reference::schedule::anlz_run;
+/// use sarvoltig_tools::compare::first_difference;
+///
+/// assert_eq!(first_difference(anlz_run, 0..100), None);
+/// ```
 #[must_use]
-pub fn first_difference(seeds: impl IntoIterator<Item = u64>) -> Option<(u64, String)> {
+pub fn first_difference(
+    run: impl Fn(u64) -> Vec<Call>,
+    seeds: impl IntoIterator<Item = u64>,
+) -> Option<(u64, String)> {
     seeds
         .into_iter()
-        .find_map(|seed| difference(&compared_run(seed)).map(|words| (seed, words)))
+        .find_map(|seed| difference(&run(seed)).map(|words| (seed, words)))
 }

@@ -1,8 +1,11 @@
-//! Tools over the proved reader: calls made on it, their replay from a text, and their comparison with the reference.
+//! Tools over the proved reader: calls made on it, their replay from a text, their comparison with the reference, and
+//! an ANLZ file on a terminal.
 
 #![forbid(unsafe_code)]
 #![deny(missing_docs)]
 
 pub mod compare;
+pub mod grid;
 pub mod library;
 pub mod replay;
+pub mod runs;

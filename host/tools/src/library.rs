@@ -1,6 +1,7 @@
 //! Calls made on the library.
 
 use sarvoltig::raw::{self, DONE, RESULT, SAME, WAITING};
+use sarvoltig_reference::anlz::Beat;
 use sarvoltig_reference::model::{Delivered, Encoding, RecordReply, Refusal, Rows, TextReply};
 use sarvoltig_reference::schedule::{Answer, Call, Reply};
 
@@ -11,13 +12,15 @@ const UNTOUCHED: u64 = 0xeeee_eeee_eeee_eeee;
 /// Result words past those that an answer can need.
 const SPARE: usize = 2;
 
-/// The record and both buffers of a run on the library, and the list that its calls read from.
+/// The record and both buffers of a run on the library, the list that its calls read from, and the ANLZ file that they
+/// ask.
 #[derive(Debug, Default)]
 pub struct Library {
     len: u64,
     image: Vec<u8>,
     map: Vec<u64>,
     list: Vec<u32>,
+    anlz: Vec<u8>,
 }
 
 /// Why a call cannot be made.
@@ -105,11 +108,7 @@ impl Coded {
     fn waits(&self) -> Option<Result<(u32, u64, u64), Failure>> {
         (self.code == WAITING).then(|| {
             let values = self.values(3)?;
-            Ok((
-                u32::try_from(values[2]).map_err(|_| Failure::Wrong)?,
-                values[0],
-                values[1],
-            ))
+            Ok((narrow(values[2])?, values[0], values[1]))
         })
     }
 }
@@ -133,6 +132,12 @@ impl Library {
         &self.list
     }
 
+    /// The ANLZ file that calls ask.
+    #[must_use]
+    pub fn anlz(&self) -> &[u8] {
+        &self.anlz
+    }
+
     /// Makes a call; what it answers, if it does.
     ///
     /// # Errors
@@ -151,6 +156,11 @@ impl Library {
                 self.list.clone_from(places);
                 return Ok(None);
             }
+            Call::Anlz { ref file } => {
+                // Memory of the file's own length, so that valgrind sees what is read behind it.
+                self.anlz = file.clone();
+                return Ok(None);
+            }
             Call::Open { len } => self.open(len)?,
             Call::Deliver { block, ref piece } => self.deliver(block, piece)?,
             Call::Rows { table, room } => {
@@ -161,6 +171,8 @@ impl Library {
             Call::Text { table, k, slot } => self.text(table, k, slot)?,
             Call::RecordIn { table, i } => self.record_in(table, i)?,
             Call::TextIn { table, i, slot } => self.text_in(table, i, slot)?,
+            Call::Beats => self.beats()?,
+            Call::Beat { k } => self.beat(k)?,
         };
         Ok(Some(Answer { reply, list }))
     }
@@ -242,6 +254,29 @@ impl Library {
         let (image, map, list) = (&self.image, &self.map, &self.list);
         Coded::of(|result| raw::text_in(self.len, image, map, table, list, i, slot, result)).text()
     }
+
+    fn beats(&self) -> Result<Result<Reply, Refusal>, Failure> {
+        let coded = Coded::of(|result| raw::beats(&self.anlz, result));
+        coded.answer(|c| (c.code == DONE).then(|| Ok(Reply::Beats(narrow(c.values(1)?[0])?))))
+    }
+
+    fn beat(&self, k: u64) -> Result<Result<Reply, Refusal>, Failure> {
+        let coded = Coded::of(|result| raw::beat(&self.anlz, k, result));
+        coded.answer(|c| (c.code == DONE).then(|| c.values(3).and_then(found_beat)))
+    }
+}
+
+/// The number, where the type takes it.
+fn narrow<T: TryFrom<u64>>(number: u64) -> Result<T, Failure> {
+    T::try_from(number).map_err(|_| Failure::Wrong)
+}
+
+fn found_beat(values: &[u64]) -> Result<Reply, Failure> {
+    Ok(Reply::Beat(Beat {
+        bar: narrow(values[0])?,
+        tempo: narrow(values[1])?,
+        time: narrow(values[2])?,
+    }))
 }
 
 fn found_text(values: &[u64]) -> Result<TextReply, Failure> {

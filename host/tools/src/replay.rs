@@ -61,6 +61,7 @@ pub fn play(mut input: impl BufRead, mut output: impl Write) -> io::Result<Endin
             return Ok(Ending::Line(count));
         };
         match library.make(&call) {
+            Ok(Some(answer)) if call.asks_anlz() => writeln!(output, "{answer}")?,
             Ok(Some(answer)) => {
                 writeln!(output, "{answer} lent {:08x}", checksum(&library, &answer))?;
             }

@@ -1,6 +1,6 @@
 //! Stored replays: the library gives the stored answers, and so does the reference.
 
-use sarvoltig_reference::schedule::{random_run, replay, Call};
+use sarvoltig_reference::schedule::{anlz_run, random_run, replay, Call};
 use sarvoltig_tools::replay::{play, Ending};
 use std::fs;
 use std::path::Path;
@@ -38,20 +38,32 @@ fn stored_runs_have_their_answers() {
             count += 1;
         }
     }
-    assert!(count >= 9, "{count} stored runs");
+    assert!(count >= 12, "{count} stored runs");
+}
+
+/// The run replays as the reference replays it.
+fn check_replay(run: &[Call], seed: u64) {
+    let lines: Vec<String> = run.iter().filter_map(Call::to_line).collect();
+    let calls = lines.join("\n") + "\n";
+    let expected = replay(&calls);
+    assert_eq!(
+        played(&calls),
+        (expected.output, expected.status),
+        "seed {seed}"
+    );
 }
 
 #[test]
 fn random_runs_replay_as_the_reference_does() {
     for seed in 1_000_000..1_000_100 {
-        let lines: Vec<String> = random_run(seed).iter().filter_map(Call::to_line).collect();
-        let calls = lines.join("\n") + "\n";
-        let expected = replay(&calls);
-        assert_eq!(
-            played(&calls),
-            (expected.output, expected.status),
-            "seed {seed}"
-        );
+        check_replay(&random_run(seed), seed);
+    }
+}
+
+#[test]
+fn anlz_runs_replay_as_the_reference_does() {
+    for seed in 1_000_000..1_000_500 {
+        check_replay(&anlz_run(seed), seed);
     }
 }
 

@@ -327,7 +327,7 @@ fn refusals_have_their_numbers() {
     for number in 1..=30 {
         let refusal = Refusal::new(number, 5);
         assert_eq!(refusal.number(), number);
-        let carries = matches!(number, 11..=15 | 17 | 20..);
+        let carries = matches!(number, 11..=15 | 17 | 25..);
         assert_eq!(refusal.carries(), if carries { 5 } else { 0 });
         assert_eq!(refusal.is_file_fault(), (9..=16).contains(&number));
         assert!(!refusal.to_string().is_empty());

@@ -2,7 +2,7 @@
 use mathlib.Core.Path.{ap}
 use borrow.Author.Needs.{needs}
 use Rattle.intake.specs.Deliver.{Outcome}
-use Rattle.c_replies.specs.Reply.{replyTo}
+use Rattle.c_reply.specs.Reply.{replyTo}
 use Rattle.c_replies.specs.Replies.{deliverReply}
 use Rattle.c_interface.proofs.ReplyCarriesOver.{replied}
 use Rattle.c_interface.proofs.sarvoltig_deliver.Statement.{statement}

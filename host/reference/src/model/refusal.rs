@@ -2,7 +2,7 @@
 
 use std::{error, fmt};
 
-/// A refusal: its number and what it carries (rules 2.1 to 2.21).
+/// A refusal: its number and what it carries (rules 2.1 to 2.21 and 14.15).
 ///
 /// ```
 /// use sarvoltig_reference::model::{Refusal, Session};
@@ -12,14 +12,14 @@ use std::{error, fmt};
 /// ```
 #[derive(Clone, Copy, Debug, PartialEq, Eq, Hash)]
 pub struct Refusal {
-    /// 1 to 19.
+    /// 1 to 24.
     pub number: u8,
     /// A page for 11 to 15, the rows found for 17, else 0.
     pub carries: u64,
 }
 
 impl Refusal {
-    pub(super) fn plain(number: u8) -> Self {
+    pub(crate) fn plain(number: u8) -> Self {
         Refusal { number, carries: 0 }
     }
 

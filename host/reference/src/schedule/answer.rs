@@ -2,6 +2,7 @@
 
 use std::fmt;
 
+use crate::anlz::Beat;
 use crate::model::{Delivered, Encoding, RecordReply, Refusal, Rows, TextReply};
 
 /// The answer to a call, and the list that it wrote to if it had one.
@@ -34,6 +35,10 @@ pub enum Reply {
     Record(u32, RecordReply),
     /// To the question for a string.
     Text(TextReply),
+    /// To the question for the number of beats.
+    Beats(u32),
+    /// To the question for a beat.
+    Beat(Beat),
 }
 
 impl fmt::Display for Answer {
@@ -63,6 +68,8 @@ impl fmt::Display for Reply {
                 len,
                 encoding,
             }) => write!(f, "text {place} {len} {}", encoding_name(*encoding)),
+            Reply::Beats(beats) => write!(f, "beats {beats}"),
+            Reply::Beat(Beat { bar, tempo, time }) => write!(f, "beat {bar} {tempo} {time}"),
             Reply::Rows(Rows::Waiting { page, rows, pages })
             | Reply::Record(_, RecordReply::Waiting { page, rows, pages })
             | Reply::Text(TextReply::Waiting { page, rows, pages }) => {

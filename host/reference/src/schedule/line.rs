@@ -31,6 +31,9 @@ impl Call {
             Call::List { places } => format!("list {}", numbers(places)),
             Call::RecordIn { table, i } => format!("record_in {} {i}", narrow(*table)?),
             Call::TextIn { table, i, slot } => format!("text_in {} {i} {slot}", narrow(*table)?),
+            Call::Anlz { file } => format!("anlz {}", hex(file)),
+            Call::Beats => "beats".to_string(),
+            Call::Beat { k } => format!("beat {k}"),
         })
     }
 
@@ -69,6 +72,9 @@ impl Call {
             ["list", places] => Call::List {
                 places: list(places)?,
             },
+            ["anlz", file] => Call::Anlz { file: bytes(file)? },
+            ["beats"] => Call::Beats,
+            ["beat", k] => Call::Beat { k: number(k)? },
             [question, table, ref numbers @ ..] => parse_question(question, table, numbers)?,
             _ => return None,
         };

@@ -1,17 +1,20 @@
 //! Runs of calls, as values and as the lines that `replay` reads.
 
+mod anlz_run;
 mod answer;
 mod line;
 mod planner;
 mod replay;
 mod run;
 
+pub use anlz_run::{anlz_file, anlz_run};
 pub use answer::{Answer, Reply};
 pub use planner::{compared_run, large_file, large_run, random_file, random_run, schedule};
 pub use replay::{crc32, replay, Replayed};
 pub use run::Run;
 
-/// A call, or something done to the buffers or the list between calls.
+/// A call, or something done to the buffers, the list or the ANLZ file between
+/// calls.
 ///
 /// ```
 /// use sarvoltig_reference::schedule::Call;
@@ -92,4 +95,31 @@ pub enum Call {
         /// The string's slot.
         slot: u64,
     },
+    /// The ANLZ file that later calls ask.
+    Anlz {
+        /// Its bytes.
+        file: Vec<u8>,
+    },
+    /// The question for the number of beats.
+    Beats,
+    /// The question for a beat.
+    Beat {
+        /// The beat's number, from 0.
+        k: u64,
+    },
+}
+
+impl Call {
+    /// Whether the call asks an ANLZ file, so that a replay prints no checksum
+    /// behind its answer.
+    ///
+    /// ```
+    /// use sarvoltig_reference::schedule::Call;
+    ///
+    /// assert!(Call::Beat { k: 0 }.asks_anlz());
+    /// assert!(!Call::Record { table: 0, k: 0 }.asks_anlz());
+    /// ```
+    pub fn asks_anlz(&self) -> bool {
+        matches!(self, Call::Beats | Call::Beat { .. })
+    }
 }

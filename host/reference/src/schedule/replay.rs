@@ -16,7 +16,8 @@ pub struct Replayed {
 }
 
 /// Makes the calls of the lines on a session. Before the first `lend` the
-/// buffers are empty, before the first `list` the list.
+/// buffers are empty, before the first `list` the list, before the first `anlz`
+/// the ANLZ file.
 ///
 /// ```
 /// use sarvoltig_reference::schedule::replay;
@@ -37,8 +38,12 @@ pub fn replay(lines: &str) -> Replayed {
             return Replayed { output, status: 2 };
         };
         if let Some(answer) = call.make(&mut run) {
-            let crc = checksum(run.session(), &answer);
-            let _ = writeln!(output, "{answer} lent {crc:08x}");
+            let _ = write!(output, "{answer}");
+            if !call.asks_anlz() {
+                let crc = checksum(run.session(), &answer);
+                let _ = write!(output, " lent {crc:08x}");
+            }
+            output.push('\n');
         }
     }
     Replayed { output, status: 0 }

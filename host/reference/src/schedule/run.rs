@@ -1,12 +1,13 @@
 //! Calls made on the reference.
 
 use super::{Answer, Call, Reply};
+use crate::anlz;
 use crate::model::{Refusal, Session};
 
 /// What each number of a list is before the call.
 pub(super) const LIST_FILL: u32 = 0xeeee_eeee;
 
-/// A session, and the list that its calls read from.
+/// A session, the list that its calls read from, and the ANLZ file that they ask.
 ///
 /// ```
 /// use sarvoltig_reference::model::Session;
@@ -21,14 +22,16 @@ pub(super) const LIST_FILL: u32 = 0xeeee_eeee;
 pub struct Run {
     session: Session,
     list: Vec<u32>,
+    anlz: Vec<u8>,
 }
 
 impl Run {
-    /// A run with an empty list.
+    /// A run with an empty list and an ANLZ file without bytes.
     pub fn new(session: Session) -> Self {
         Run {
             session,
             list: Vec::new(),
+            anlz: Vec::new(),
         }
     }
 
@@ -41,10 +44,15 @@ impl Run {
     pub fn list(&self) -> &[u32] {
         &self.list
     }
+
+    /// The ANLZ file that calls ask.
+    pub fn anlz(&self) -> &[u8] {
+        &self.anlz
+    }
 }
 
 impl Call {
-    /// Makes the call. `Lend`, `Word` and `List` have no answer.
+    /// Makes the call. `Lend`, `Word`, `List` and `Anlz` have no answer.
     ///
     /// ```
     /// use sarvoltig_reference::model::Session;
@@ -63,7 +71,11 @@ impl Call {
 
     /// Makes the call; `written` becomes the list that it writes to, if it has one.
     fn reply(&self, run: &mut Run, written: &mut Vec<u32>) -> Option<Result<Reply, Refusal>> {
-        let Run { session, list } = run;
+        let Run {
+            session,
+            list,
+            anlz,
+        } = run;
         Some(match *self {
             Call::Lend { image, words } => {
                 session.replace_buffers(fresh_image(image), fresh_map(words));
@@ -75,6 +87,10 @@ impl Call {
             }
             Call::List { ref places } => {
                 list.clone_from(places);
+                return None;
+            }
+            Call::Anlz { ref file } => {
+                anlz.clone_from(file);
                 return None;
             }
             Call::Open { len } => session.open(len).map(Reply::Open),
@@ -95,6 +111,8 @@ impl Call {
             Call::TextIn { table, i, slot } => {
                 session.text_in(table, list, i, slot).map(Reply::Text)
             }
+            Call::Beats => anlz::beats(anlz).map(Reply::Beats),
+            Call::Beat { k } => anlz::beat(anlz, k).map(Reply::Beat),
         })
     }
 }

@@ -1,14 +1,14 @@
 //! Calls as lines, and their replay.
 
 use sarvoltig_reference::model::Session;
-use sarvoltig_reference::schedule::{random_run, replay, Call, Run};
+use sarvoltig_reference::schedule::{anlz_run, random_run, replay, Call, Run};
 
 use crate::desk::case_d;
 
 #[test]
 fn lines_are_read_as_written() {
     for seed in 0..30 {
-        for call in random_run(seed) {
+        for call in random_run(seed).into_iter().chain(anlz_run(seed)) {
             if let Some(line) = call.to_line() {
                 assert_eq!(Call::parse_line(&line), Some(call));
             }
@@ -73,6 +73,57 @@ fn other_lines_about_a_list_are_no_calls() {
     for line in lines {
         assert_eq!(Call::parse_line(line), None, "{line}");
     }
+}
+
+#[test]
+fn other_lines_about_an_anlz_file_are_no_calls() {
+    let lines = [
+        "anlz",
+        "anlz ",
+        "anlz abc",
+        "anlz 0g",
+        "anlz 00 00",
+        "anlz - ",
+        "beats 0",
+        "beats ",
+        "Beats",
+        "beat",
+        "beat ",
+        "beat -",
+        "beat +1",
+        "beat 18446744073709551616",
+        "beat 0 0",
+    ];
+    for line in lines {
+        assert_eq!(Call::parse_line(line), None, "{line}");
+    }
+}
+
+#[test]
+fn anlz_files_replay_without_a_checksum() {
+    let input = [
+        "beats",
+        "lend 512 1",
+        "open 512 0",
+        "anlz 504d41490000000c0000002c5051545a00000018000000200000000000800000000000010003303a00000079",
+        "beats",
+        "beat 0",
+        "beat 18446744073709551615",
+        "open 512 0",
+        "anlz -",
+        "beat 0",
+    ];
+    let output = "\
+refused 20 0 0
+open 1 lent 83df2ef5
+beats 1
+beat 3 12346 121
+refused 18 0 0
+open 1 lent 83df2ef5
+refused 20 0 0
+";
+    let replayed = replay(&input.join("\n"));
+    assert_eq!((replayed.output.as_str(), replayed.status), (output, 0));
 }
 
 #[test]

@@ -1,5 +1,6 @@
 //! The tests of the reference.
 
+mod anlz;
 mod desk;
 mod examples;
 mod generated;

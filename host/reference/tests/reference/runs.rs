@@ -22,9 +22,13 @@ fn run_calls(file: &[u8], rng: &mut Rng) -> Vec<Call> {
 fn answer_by_received(received: &Received, call: &Call, read_from: &[u32]) -> Option<Answer> {
     let mut list = Vec::new();
     let reply = match *call {
-        Call::Lend { .. } | Call::Word { .. } | Call::Open { .. } | Call::List { .. } => {
-            return None
-        }
+        Call::Lend { .. }
+        | Call::Word { .. }
+        | Call::Open { .. }
+        | Call::List { .. }
+        | Call::Anlz { .. }
+        | Call::Beats
+        | Call::Beat { .. } => return None,
         Call::Deliver { block, ref piece } => delivered_by_received(received, block, piece),
         Call::Rows { table, room } => {
             list = vec![0xeeee_eeee; room];

@@ -1,4 +1,4 @@
--- `c_replies::put` meets its contract. The invariant: the values before i are written, those from i on are to be.
+-- `c_reply::put` meets its contract. The invariant: the values before i are written, those from i on are to be.
 use mathlib.Core.Path.{_≡_, refl, sym, _∙_}
 use Prim.Native.Nat.{_-_}
 use native.Mathlib.Numerals.{add-one}
@@ -7,8 +7,8 @@ use lib.ListN.{length, drop, length-set, drop-of-length-le}
 use lib.Seq.{sets, drop-cons}
 use Rattle.lists.specs.Write.{written}
 use Rattle.lists.proofs.Sets.{sets-past}
-use Rattle.c_replies.proofs.put.Statement.{statement}
-use Rattle.c_replies.proofs.put.Tie as tie
+use Rattle.c_reply.proofs.put.Statement.{statement}
+use Rattle.c_reply.proofs.put.Tie as tie
 
 abbrev Inv-loop : tie.InvT-loop
 Inv-loop code values result₀ i₀ result i = (length result ≡ length result₀) × (written result₀ values ≡ sets result i (drop i values))

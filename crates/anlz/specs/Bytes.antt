@@ -1,0 +1,19 @@
+-- Rule 14.16: the bytes of an ANLZ file that its list of sections may depend on: the envelopes, 12 bytes each.
+use mathlib.Core.Bool.{Bool, false, _&&_, _||_}
+use Prim.Native.Nat.{ℕ, zero, suc, _+_, _-_}
+use lib.ListN.{length}
+use Rattle.lists.specs.Alias.{Bytes}
+use Rattle.number.specs.Agree.{within}
+use Rattle.anlz.specs.Header.{envelope, len-header, headerHolds}
+use Rattle.anlz.specs.Section.{len-tag, sectionHolds}
+
+-- byte i stands in the envelope of a section from a place on, up to the first broken one
+-- (where the file ends, the 12 bytes are past it, and 0 in every file)
+unfoldable pub envelopeFrom : (left : ℕ) (file : Bytes) (place i : ℕ) → Bool
+envelopeFrom zero file place i = false
+envelopeFrom (suc left) file place i =
+    within place envelope i || (sectionHolds file place && envelopeFrom left file (place + len-tag file place) i)
+
+-- byte i stands in the envelope of the file or, where its header is not broken, of a section
+unfoldable pub envelopeByte : (file : Bytes) (i : ℕ) → Bool
+envelopeByte file i = within 0 envelope i || (headerHolds file && envelopeFrom (length file - len-header file) file (len-header file) i)

@@ -1,0 +1,17 @@
+-- Rules 14.2 to 14.14: the number of each refusal about an ANLZ file. Rule 14.15: all carry 0.
+use Prim.Native.Nat.{ℕ}
+use Rattle.refusal.specs.declared.Fault.{Fault}
+use Rattle.refusal.specs.Fault.{fault}
+use Rattle.anlz.specs.declared.AnlzRefusal.{AnlzRefusal}
+use Rattle.anlz.specs.declared.AnlzRefusal.the-variants.{Absent, FileHeader, BadSection, NoGrid, GridLength, BarPosition}
+
+abbrev pub anlzNumber : AnlzRefusal → ℕ
+anlzNumber Absent = 18
+anlzNumber FileHeader = 20
+anlzNumber BadSection = 21
+anlzNumber NoGrid = 22
+anlzNumber GridLength = 23
+anlzNumber BarPosition = 24
+
+abbrev pub anlzFault : AnlzRefusal → Fault
+anlzFault refusal = fault (anlzNumber refusal) 0

@@ -1,0 +1,36 @@
+-- Rules 14.11 and 14.12: a beat, the fields of its eight bytes in file order, and which bar positions there are.
+use mathlib.Core.Bool.{Bool, true, _&&_}
+use mathlib.Core.List.{List, [], _∷_}
+use Prim.Native.Nat.{ℕ}
+use lib.Dec.{leb}
+use Rattle.lists.specs.Alias.{Bytes}
+use Rattle.number.specs.Number.{be16, be32}
+use Rattle.beat_grid.specs.declared.GridBeat.{GridBeat}
+
+-- bytes of a beat
+abbrev pub beatSize : ℕ
+beatSize = 8
+
+-- the bar position, published as beat_number
+abbrev pub bar : Bytes → ℕ
+bar entry = be16 entry 0x00
+
+-- beats per minute times 100
+abbrev pub tempo : Bytes → ℕ
+tempo entry = be16 entry 0x02
+
+-- milliseconds
+abbrev pub time : Bytes → ℕ
+time entry = be32 entry 0x04
+
+abbrev pub beatOf : Bytes → GridBeat
+beatOf entry = record { bar = bar entry; tempo = tempo entry; time = time entry }
+
+-- Rule 14.12
+unfoldable pub barHolds : ℕ → Bool
+barHolds n = leb 1 n && leb n 4
+
+-- is true exactly when the bar position of every beat is one
+unfoldable pub barsHold : List GridBeat → Bool
+barsHold [] = true
+barsHold (beat ∷ beats) = barHolds (beat .bar) && barsHold beats
