@@ -11,7 +11,7 @@
 
 #include "sarvoltig.h"
 
-enum { ROOM = 1 << 24 };
+enum { ROOM = 1 << 20 };
 
 static uint8_t file[ROOM]; /* a longer file is cut, and so refused */
 static uint64_t result[SARVOLTIG_RESULT];
@@ -28,7 +28,7 @@ int main(void)
             uint64_t tempo = result[SARVOLTIG_BEAT_TEMPO];
 
             printf("%7" PRIu64 "  %" PRIu64 "  %" PRIu64 ".%02" PRIu64 "\n", result[SARVOLTIG_BEAT_TIME],
-                   result[SARVOLTIG_BEAT_BAR], tempo / 100, tempo % 100);
+                   result[SARVOLTIG_BEAT_BAR_POSITION], tempo / 100, tempo % 100);
         }
     }
     if (code != SARVOLTIG_DONE) {

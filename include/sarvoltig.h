@@ -18,8 +18,8 @@
  * list with sarvoltig_record_in and sarvoltig_text_in, which look at one page.
  *
  * An ANLZ file is asked with sarvoltig_beats and sarvoltig_beat as soon as all of it is there: it needs no opening, no image
- * and no map, the file is only read, and no answer waits. Each call goes through all sections and all beats, so its time
- * grows with the file.
+ * and no map, the file is only read, and no answer waits. Each call goes through all sections and all beats, so n beats one
+ * by one take time that grows with the square of n: read them once and keep them.
  *
  * A slice is a pointer and the number of elements that it points to. What the caller has to keep:
  *   - a pointer is aligned for its type and not NULL, also where the number is 0;
@@ -79,7 +79,7 @@ enum {
     SARVOLTIG_ANLZ_HEADER = 20,   /* the header of an ANLZ file is broken, or len_file is not the file's length */
     SARVOLTIG_SECTION = 21,       /* a section is malformed or ends past the file, or bytes are left over behind the last */
     SARVOLTIG_NO_GRID = 22,       /* no section is a beat grid, PQTZ */
-    SARVOLTIG_GRID_LENGTH = 23,   /* the grid's number of beats does not fill its tag exactly */
+    SARVOLTIG_GRID_LENGTH = 23,   /* the beats do not fill the grid's section exactly */
     SARVOLTIG_BAR_POSITION = 24   /* the bar position of a beat, whichever it is, is not 1 to 4 */
 };
 
@@ -156,9 +156,9 @@ enum {
 
 /* A beat. */
 enum {
-    SARVOLTIG_BEAT_BAR,   /* its position in the bar, 1 to 4 */
-    SARVOLTIG_BEAT_TEMPO, /* beats per minute, times 100 */
-    SARVOLTIG_BEAT_TIME   /* milliseconds from the track's start, at its normal speed */
+    SARVOLTIG_BEAT_BAR_POSITION, /* its position in the bar, 1 to 4 */
+    SARVOLTIG_BEAT_TEMPO,        /* beats per minute, times 100 */
+    SARVOLTIG_BEAT_TIME          /* milliseconds from the track's start, at its normal speed */
 };
 
 /* String slots of a track. */

@@ -298,7 +298,7 @@ static void run_beats(void)
     answers("beat 0", beat(ANLZ_LEN, 0), SARVOLTIG_DONE, 3, 4, 12500, 25);
     answers("beat 1", beat(ANLZ_LEN, 1), SARVOLTIG_DONE, 3, 1, 12500, 505);
     answers("beat 2", beat(ANLZ_LEN, 2), SARVOLTIG_DONE, 3, 2, 65534, UINT32_MAX - 2);
-    expect(result[SARVOLTIG_BEAT_BAR] == 2 && result[SARVOLTIG_BEAT_TEMPO] == 65534 &&
+    expect(result[SARVOLTIG_BEAT_BAR_POSITION] == 2 && result[SARVOLTIG_BEAT_TEMPO] == 65534 &&
                result[SARVOLTIG_BEAT_TIME] == UINT32_MAX - 2,
            "the places of a beat's numbers");
     answers("beat 3", beat(ANLZ_LEN, 3), SARVOLTIG_NO_ROW, 1, 0, 0, 0);

@@ -1,11 +1,18 @@
--- ANLZ files: where the sections start (FileStart), the tests of a section as the code makes them (SectionTests), what stands at a place
--- (NextSection), that the steps of the definition suffice (StepsEnough), that the sections fill the file (FileTiled), going through them
--- for a code (FirstLoop), a section's bytes (Tag), and that files which agree on the envelopes have the same sections (SectionsAgree).
-pub mod FileStart
+-- How the code of crate `anlz` meets its contracts, and what holds of the sections of a file.
+--     HeaderTests, SectionTests     the tests of the two envelopes, as the code makes them
+--     FileStart                     where the sections start
+--     NextSection                   what stands at a place: the end, a section whole inside the file, or a broken one
+--     StepsEnough                   the steps of the definition suffice
+--     FileFilled                     the sections fill the file
+--     FirstLoop                     going through the sections for a code
+--     ElementAt                     an element of a list by its number
+--     SectionsAgree                 files that agree on the envelopes have the same sections
+pub mod HeaderTests
 pub mod SectionTests
+pub mod FileStart
 pub mod NextSection
 pub mod StepsEnough
-pub mod FileTiled
+pub mod FileFilled
 pub mod FirstLoop
-pub mod Tag
+pub mod ElementAt
 pub mod SectionsAgree

@@ -1,5 +1,5 @@
 -- Rules 14.4 and 14.5: what stands at a place: the end of the file, a section whole inside it (section-whole), or a broken one.
-use mathlib.Core.Path.{_≡_, refl}
+use mathlib.Core.Path.{_≡_}
 use mathlib.Core.Bool.{true, false}
 use mathlib.Core.Option.{none, some}
 use Prim.Native.Nat.{ℕ, _+_, _≤_}
@@ -12,7 +12,7 @@ use Rattle.lists.proofs.Choice.{on, never, both-true}
 use Rattle.refusal.specs.Fault.{fault}
 use Rattle.refusal.specs.Answer.{given, refused}
 use Rattle.anlz.specs.declared.Section.{Section}
-use Rattle.anlz.specs.Section.{sectionHolds, sectionAt, tag-header, len-tag}
+use Rattle.anlz.specs.Section.{sectionHolds, sectionAt, len-header, len-tag}
 use Rattle.anlz.specs.Sections.{nextSection}
 
 -- the section at a place is whole, and has at least the 12 bytes of its envelope
@@ -26,11 +26,11 @@ module _ (file : Bytes) (place : ℕ) where
   unfolding sectionHolds
   section-whole e =
       let first = both-true (leb (place + 12) (length file)) _ e in
-      let second = both-true (leb 12 (tag-header file place)) _ (first .1) in
-      let third = both-true (leb (tag-header file place) (len-tag file place)) _ (second .1) in
+      let second = both-true (leb 12 (len-header file place)) _ (first .1) in
+      let third = both-true (leb (len-header file place) (len-tag file place)) _ (second .1) in
       record {
         envelope = leb-true _ _ (first .0);
-        least = omega (arith, leb-true 12 (tag-header file place) (second .0), leb-true (tag-header file place) (len-tag file place) (third .0));
+        least = omega (arith, leb-true 12 (len-header file place) (second .0), leb-true (len-header file place) (len-tag file place) (third .0));
         ends = leb-true _ _ (third .1);
       }
 
@@ -49,9 +49,8 @@ module _ (file : Bytes) (place : ℕ) where
       let n : place ≡ length file → ⊥ = λ q. omega (arith, w .envelope) in
       rw (ne-eqb place (length file) n, e)
 
--- a section that is found starts at the place, is longer than 11 bytes and ends inside the file
+-- a section that is found is longer than 11 bytes and ends inside the file
 pub record Inside (file : Bytes) (place : ℕ) (section : Section) : Type 0 where
-  pub here : section .place ≡ place
   pub more : place + 12 ≤ section .end
   pub ends : section .end ≤ length file
 
@@ -65,4 +64,4 @@ found-inside file place {section} e =
     whole : sectionHolds file place ≡ true → section ≡ sectionAt file place → Inside file place section
     whole h same =
         let w = section-whole file place h in
-        rw same (record { here = refl; more = omega (arith, w .least); ends = w .ends })
+        rw same (record { more = omega (arith, w .least); ends = w .ends })

@@ -8,7 +8,7 @@ use lib.Dec.{leb}
 use borrow.Author.Tests.{le-leb, lt-leb, leb-true, leb-false}
 use Rattle.lists.specs.Alias.{Bytes}
 use Rattle.lists.proofs.Choice.{on}
-use Rattle.anlz.specs.Section.{sectionHolds, tag-header, len-tag}
+use Rattle.anlz.specs.Section.{sectionHolds, len-header, len-tag}
 
 module _ (n place t : ℕ) where
   pub leb-left : place ≤ n → leb (place + t) n ≡ leb t (n - place)
@@ -24,7 +24,7 @@ module _ (file : Bytes) (place : ℕ) where
   section-cut h = rw (lt-leb _ _ h)
 
   -- h and t are what stands in the envelope
-  pub section-tests : {h t : ℕ} → place + 12 ≤ length file → h ≡ tag-header file place → t ≡ len-tag file place
+  pub section-tests : {h t : ℕ} → place + 12 ≤ length file → h ≡ len-header file place → t ≡ len-tag file place
       → sectionHolds file place ≡ (leb 12 h && (leb h t && leb t (length file - place)))
   unfolding sectionHolds
   section-tests {h} {t} l eh et = rw (le-leb _ _ l, ← eh, ← et, leb-left (length file) place t (omega arith))

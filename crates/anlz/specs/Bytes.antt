@@ -7,8 +7,8 @@ use Rattle.number.specs.Agree.{within}
 use Rattle.anlz.specs.Header.{envelope, len-header, headerHolds}
 use Rattle.anlz.specs.Section.{len-tag, sectionHolds}
 
--- byte i stands in the envelope of a section from a place on, up to the first broken one
--- (where the file ends, the 12 bytes are past it, and 0 in every file)
+-- byte i stands in the envelope of a section from a place on, up to and with the first broken one
+-- (where the file ends, the 12 bytes are past it, and read as 0)
 unfoldable pub envelopeFrom : (left : ℕ) (file : Bytes) (place i : ℕ) → Bool
 envelopeFrom zero file place i = false
 envelopeFrom (suc left) file place i =

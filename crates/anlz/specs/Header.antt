@@ -6,13 +6,13 @@ use lib.Dec.{leb, eqb}
 use Rattle.lists.specs.Alias.{Bytes}
 use Rattle.number.specs.Number.{be32}
 
--- the number that four characters are, as big-endian bytes
-abbrev pub code : (a b c d : ℕ) → ℕ
-code a b c d = 16777216 * a + 65536 * b + 256 * c + d
+-- a code as a number: four bytes, the high one first
+abbrev pub fourBytes : (a b c d : ℕ) → ℕ
+fourBytes a b c d = 16777216 * a + 65536 * b + 256 * c + d
 
 -- P, M, A, I
 abbrev pub pmai : ℕ
-pmai = code 0x50 0x4d 0x41 0x49
+pmai = fourBytes 0x50 0x4d 0x41 0x49
 
 -- the least length of a header, of the file or of a section: a code and two lengths
 abbrev pub envelope : ℕ
@@ -27,7 +27,7 @@ len-header file = be32 file 0x04
 abbrev pub len-file : Bytes → ℕ
 len-file file = be32 file 0x08
 
--- the whole header is there, starts PMAI, has the length of these bytes, and itself a length from 12 to that of the file
+-- the envelope is there, the code is PMAI, len_file is the length of these bytes, and len_header is from 12 to len_file
 unfoldable pub headerHolds : Bytes → Bool
 headerHolds file =
     leb envelope (length file)

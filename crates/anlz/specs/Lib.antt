@@ -1,11 +1,18 @@
--- ANLZ files: their refusals (Fault), the file header (Header), the sections in file order (Section, Sections, Tile, Long), the first section with a
--- code (First), and the bytes that these depend on (Bytes). Private has what only private functions cite.
+-- ANLZ files.
+--     Fault                      the numbers of their refusals
+--     Header, Section            the fields of the two envelopes, and when they are not broken
+--     Sections                   the sections in file order
+--     SectionsFill, Long         what holds of them
+--     First, Element             the first section with a code, and an element of a list by its number
+--     Bytes                      the bytes that the sections depend on
+--     Private                    what only private functions cite
 pub mod Fault
 pub mod Header
 pub mod Section
 pub mod Sections
-pub mod Tile
+pub mod SectionsFill
 pub mod Long
 pub mod First
+pub mod Element
 pub mod Bytes
 pub mod Private

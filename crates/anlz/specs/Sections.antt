@@ -24,7 +24,7 @@ nextSection file place =
     (refuseIf (not (sectionHolds file place)) (fault 21 0)
     (given (some (sectionAt file place))))
 
--- what a section found is followed by; nothing where there is none
+-- the end gives no section, a section goes on with the rest, a refusal stays
 abbrev pub follow : (next : Answer (Option Section)) (rest : Section → Answer (List Section)) → Answer (List Section)
 follow (given none) rest = given []
 follow (given (some section)) rest = rest section
@@ -40,7 +40,7 @@ sectionsFrom zero file place = given []
 sectionsFrom (suc left) file place =
     follow (nextSection file place) (λ (section : Section). before section (sectionsFrom left file (section .end)))
 
--- Rule 14.2: where the sections start
+-- Rules 14.2 and 14.5: where the sections start
 unfoldable pub firstPlace : (file : Bytes) → Answer ℕ
 firstPlace file = refuseIf (not (headerHolds file)) (fault 20 0) (given (len-header file))
 

@@ -137,12 +137,13 @@ impl Cursor {
         if place == file.len() {
             return Step::End;
         }
-        if !section_holds(file, place) {
-            return Step::Refused(AnlzRefusal::BadSection);
+        if section_holds(file, place) {
+            let code = number::u32_be_at(file, place);
+            let end = place + (number::u32_be_at(file, place + 0x08) as usize);
+            Step::Found(Section { code, place, end })
+        } else {
+            Step::Refused(AnlzRefusal::BadSection)
         }
-        let code = number::u32_be_at(file, place);
-        let end = place + (number::u32_be_at(file, place + 0x08) as usize);
-        Step::Found(Section { code, place, end })
     }
 }
 
@@ -151,19 +152,7 @@ impl Section {
     pub fn bytes(self, file: &[u8]) -> &[u8]
         ensures { λ r. ⌜ now r ≡ tagOf (now (file .entry)) self ⌝ }
     {
-        let place = self.place;
-        let end = self.end;
-        let none = file.len();
-        if none < place {
-            return &file[none..];
-        }
-        if end < place {
-            return &file[none..];
-        }
-        if none < end {
-            return &file[place..];
-        }
-        &file[place..end]
+        lists::subslice(file, self.place, self.end)
     }
 }
 

@@ -7,7 +7,7 @@ use native.Mathlib.Omega.{arith}
 use Rattle.lists.specs.Alias.{Bytes}
 use Rattle.lists.proofs.Choice.{left-step}
 use Rattle.entries.specs.Entries.{entry, entriesFrom}
-use Rattle.beat_grid.specs.Beat.{beatSize, bar, barHolds, barsHold}
+use Rattle.beat_grid.specs.Beat.{beatSize, bar-position, barHolds, barsHold}
 use Rattle.beat_grid.specs.Private.{beatsFrom}
 
 pub record Judging (tag : Bytes) (whole : Bool) (count k : ℕ) : Type 0 where
@@ -18,11 +18,11 @@ pub bars-begin : (tag : Bytes) (count : ℕ) → Judging tag (barsHold (beatsFro
 bars-begin tag count = record { inside = omega arith; rest = rw (sub-zero count) }
 
 module _ {tag : Bytes} {whole : Bool} {count k : ℕ} (j : Judging tag whole count k) where
-  pub bars-bad : k < count → barHolds (bar (entry beatSize tag k)) ≡ false → false ≡ whole
+  pub bars-bad : k < count → barHolds (bar-position (entry beatSize tag k)) ≡ false → false ≡ whole
   unfolding entriesFrom barsHold
   bars-bad h e = sym (j .rest ∙ rw (left-step h, e))
 
-  pub bars-next : k < count → barHolds (bar (entry beatSize tag k)) ≡ true → Judging tag whole count (k + 1)
+  pub bars-next : k < count → barHolds (bar-position (entry beatSize tag k)) ≡ true → Judging tag whole count (k + 1)
   unfolding entriesFrom barsHold
   bars-next h e = record { inside = omega arith; rest = j .rest ∙ rw (left-step h, e) }
 

@@ -11,9 +11,9 @@ use Rattle.beat_grid.specs.declared.GridBeat.{GridBeat}
 abbrev pub beatSize : ℕ
 beatSize = 8
 
--- the bar position, published as beat_number
-abbrev pub bar : Bytes → ℕ
-bar entry = be16 entry 0x00
+-- published as beat_number
+abbrev pub bar-position : Bytes → ℕ
+bar-position entry = be16 entry 0x00
 
 -- beats per minute times 100
 abbrev pub tempo : Bytes → ℕ
@@ -24,13 +24,13 @@ abbrev pub time : Bytes → ℕ
 time entry = be32 entry 0x04
 
 abbrev pub beatOf : Bytes → GridBeat
-beatOf entry = record { bar = bar entry; tempo = tempo entry; time = time entry }
+beatOf entry = record { «bar_position» = bar-position entry; tempo = tempo entry; time = time entry }
 
 -- Rule 14.12
-unfoldable pub barHolds : ℕ → Bool
+unfoldable pub barHolds : (bar-position : ℕ) → Bool
 barHolds n = leb 1 n && leb n 4
 
--- is true exactly when the bar position of every beat is one
+-- is true exactly when every beat has a bar position from 1 to 4
 unfoldable pub barsHold : List GridBeat → Bool
 barsHold [] = true
-barsHold (beat ∷ beats) = barHolds (beat .bar) && barsHold beats
+barsHold (beat ∷ beats) = barHolds (beat .«bar_position») && barsHold beats

@@ -8,7 +8,7 @@ use Rattle.number.specs.Number.{be32}
 use Rattle.refusal.specs.Fault.{fault}
 use Rattle.refusal.specs.Answer.{Answer, given, refused, refuseIf, andThen}
 use Rattle.anlz.specs.declared.Section.{Section}
-use Rattle.anlz.specs.Header.{code}
+use Rattle.anlz.specs.Header.{fourBytes}
 use Rattle.anlz.specs.Section.{tagOf}
 use Rattle.anlz.specs.First.{firstSection}
 use Rattle.entries.specs.Entries.{fills, entries}
@@ -17,7 +17,7 @@ use Rattle.beat_grid.specs.Beat.{beatSize, beatOf, barsHold}
 
 -- P, Q, T, Z
 abbrev pub pqtz : ℕ
-pqtz = code 0x50 0x51 0x54 0x5a
+pqtz = fourBytes 0x50 0x51 0x54 0x5a
 
 abbrev pub len-beats : Bytes → ℕ
 len-beats tag = be32 tag 0x14
@@ -25,19 +25,19 @@ len-beats tag = be32 tag 0x14
 abbrev pub beatsIn : Bytes → List GridBeat
 beatsIn tag = map beatOf (entries beatSize (len-beats tag) tag)
 
--- the beats of this section
+-- Rules 14.10 and 14.12, in this order: the beats of this section
 unfoldable pub gridIn : Bytes → Answer (List GridBeat)
 gridIn tag =
     refuseIf (not (fills beatSize (len-beats tag) tag)) (fault 23 0)
     (refuseIf (not (barsHold (beatsIn tag))) (fault 24 0)
     (given (beatsIn tag)))
 
--- a section that has to be there
+-- Rule 14.8: 22 where there is none
 abbrev pub needed : Option Section → Answer Section
 needed none = refused (fault 22 0)
 needed (some section) = given section
 
--- Rule 14.8: the grid is the first section PQTZ
+-- Rule 14.8: the first section PQTZ
 unfoldable pub gridSection : (file : Bytes) → Answer Section
 gridSection file = andThen (firstSection file pqtz) needed
 

@@ -1,11 +1,11 @@
 -- Rules 14.13 and 14.14: the two questions about a beat grid: the number of beats, and beat k.
-use mathlib.Core.List.{List, [], _∷_}
-use Prim.Native.Nat.{ℕ, zero, suc}
+use mathlib.Core.List.{List}
+use Prim.Native.Nat.{ℕ}
 use lib.ListN.{length}
 use Rattle.lists.specs.Alias.{Bytes}
-use Rattle.refusal.specs.Fault.{fault}
 use Rattle.refusal.specs.Answer.{Answer, given, refused, andThen}
 use Rattle.anlz.specs.Fault.{anlzFault}
+use Rattle.anlz.specs.Element.{elementAt}
 use Rattle.beat_grid.specs.declared.GridBeat.{GridBeat}
 use Rattle.beat_grid.specs.declared.BeatsReply.{BeatsReply}
 use Rattle.beat_grid.specs.declared.BeatsReply.the-variants as beats
@@ -17,17 +17,11 @@ use Rattle.beat_grid.specs.Grid.{grid}
 abbrev pub counted : List GridBeat → Answer ℕ
 counted beats = given (length beats)
 
--- beat k of these, from 0
-unfoldable pub beatAmong : (k : ℕ) → List GridBeat → Answer GridBeat
-beatAmong k [] = refused (fault 18 0)
-beatAmong zero (beat ∷ beats) = given beat
-beatAmong (suc k) (beat ∷ beats) = beatAmong k beats
-
 unfoldable pub askBeats : (file : Bytes) → Answer ℕ
 askBeats file = andThen (grid file) counted
 
 unfoldable pub askBeat : (file : Bytes) (k : ℕ) → Answer GridBeat
-askBeat file k = andThen (grid file) (beatAmong k)
+askBeat file k = andThen (grid file) (elementAt k)
 
 -- the answer for each case of the code's enums
 abbrev pub beatsReplyOf : BeatsReply → Answer ℕ

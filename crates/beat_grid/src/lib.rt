@@ -1,24 +1,22 @@
 // The beat grid of an ANLZ file: the number of beats, and one beat.
 ghost use mathlib.Core.Path.{_≡_};
-ghost use mathlib.Core.Bool.{true};
-ghost use Prim.Native.Nat.{_≤_, _+_};
-ghost use lib.ListN.{length};
 ghost use Rattle.refusal.specs.Answer.{andThen};
-ghost use Rattle.entries.specs.Entries.{entryAt, entry, fills};
-ghost use Rattle.beat_grid.specs.Beat.{beatSize, beatOf, barHolds, barsHold};
+ghost use Rattle.anlz.specs.Element.{elementAt};
+ghost use Rattle.beat_grid.specs.Beat.{beatOf, barHolds, barsHold};
 ghost use Rattle.beat_grid.specs.Grid.{gridIn, gridSection};
-ghost use Rattle.beat_grid.specs.Questions.{counted, beatAmong, askBeats, askBeat, beatsReplyOf, beatReplyOf};
+ghost use Rattle.beat_grid.specs.Questions.{counted, askBeats, askBeat, beatsReplyOf, beatReplyOf};
 ghost use Rattle.beat_grid.specs.Private.{beatsFrom, gridReplyOf};
 use anlz::AnlzRefusal;
 use anlz::First;
 use anlz::Section;
+use entries::Entries;
 
 // The code of the section that holds a beat grid.
 const PQTZ: u32 = 0x5051_545a;
 
 // A beat: its position in the bar, beats per minute times 100, and milliseconds.
 pub struct GridBeat {
-    pub bar: u16,
+    pub bar_position: u16,
     pub tempo: u16,
     pub time: u32,
 }
@@ -42,43 +40,41 @@ enum GridReply {
 
 impl GridBeat {
     // Bytes of a beat.
-    pub const SIZE: usize = 8;
+    pub const SIZE: u32 = 8;
 
     // The beat that these bytes are.
     pub fn read(entry: &[u8]) -> GridBeat
         ensures { λ r. ⌜ r ≡ beatOf (now (entry .entry)) ⌝ }
     {
         GridBeat {
-            bar: number::u16_be_at(entry, 0x00),
+            bar_position: number::u16_be_at(entry, 0x00),
             tempo: number::u16_be_at(entry, 0x02),
             time: number::u32_be_at(entry, 0x04),
         }
     }
 }
 
-// The bytes of beat k.
-fn entry_at(tag: &[u8], k: u32) -> &[u8]
-    requires { ⌜ entryAt beatSize k + beatSize ≤ length (now tag) ⌝ }
-    ensures { λ r. ⌜ now r ≡ entry beatSize (now (tag .entry)) k ⌝ }
+fn bar_holds(bar_position: u16) -> bool
+    ensures { λ r. ⌜ r ≡ barHolds «bar_position» ⌝ }
 {
-    let at = 0x18 + GridBeat::SIZE * (k as usize);
-    &tag[at..at + GridBeat::SIZE]
+    if 1 <= bar_position {
+        bar_position <= 4
+    } else {
+        false
+    }
 }
 
-fn bar_holds(bar: u16) -> bool
-    ensures { λ r. ⌜ r ≡ barHolds bar ⌝ }
-{
-    if 1 <= bar { bar <= 4 } else { false }
-}
-
-// Whether the bar position of every beat is one, in a section that the beats fill.
+// Whether each of so many beats has a bar position from 1 to 4.
 fn bars_hold(tag: &[u8], count: u32) -> bool
-    requires { ⌜ fills beatSize count (now tag) ≡ true ⌝ }
     ensures { λ r. ⌜ r ≡ barsHold (beatsFrom (now (tag .entry)) count 0) ⌝ }
 {
+    let beats = Entries {
+        width: GridBeat::SIZE,
+        count,
+    };
     let mut k: u32 = 0;
     while k < count {
-        if !bar_holds(number::u16_be_at(entry_at(tag, k), 0x00)) {
+        if !bar_holds(number::u16_be_at(beats.entry(tag, k), 0x00)) {
             return false;
         }
         k += 1;
@@ -91,7 +87,11 @@ fn beats_in(tag: &[u8]) -> BeatsReply
     ensures { λ r. ⌜ beatsReplyOf r ≡ andThen (gridIn (now (tag .entry))) counted ⌝ }
 {
     let count = number::u32_be_at(tag, 0x14);
-    if !entries::fills(tag, GridBeat::SIZE as u32, count) {
+    let beats = Entries {
+        width: GridBeat::SIZE,
+        count,
+    };
+    if !beats.fill(tag) {
         return BeatsReply::Refused(AnlzRefusal::GridLength);
     }
     if !bars_hold(tag, count) {
@@ -102,16 +102,19 @@ fn beats_in(tag: &[u8]) -> BeatsReply
 
 // Beat k of this section.
 fn beat_in(tag: &[u8], k: u64) -> BeatReply
-    ensures { λ r. ⌜ beatReplyOf r ≡ andThen (gridIn (now (tag .entry))) (beatAmong k) ⌝ }
+    ensures { λ r. ⌜ beatReplyOf r ≡ andThen (gridIn (now (tag .entry))) (elementAt k) ⌝ }
 {
     let count = beats_in(tag);
     match count {
         BeatsReply::Count(n) => {
             if (n as u64) <= k {
-                BeatReply::Refused(AnlzRefusal::Absent)
-            } else {
-                BeatReply::Found(GridBeat::read(entry_at(tag, k as u32)))
+                return BeatReply::Refused(AnlzRefusal::Absent);
             }
+            let beats = Entries {
+                width: GridBeat::SIZE,
+                count: n,
+            };
+            BeatReply::Found(GridBeat::read(beats.entry(tag, k as u32)))
         }
         BeatsReply::Refused(refusal) => BeatReply::Refused(refusal),
     }

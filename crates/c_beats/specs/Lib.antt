@@ -1,1 +1,2 @@
+-- What C is answered about a beat grid.
 pub mod Replies

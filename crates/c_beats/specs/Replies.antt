@@ -9,4 +9,4 @@ abbrev pub beatsReply : ℕ → Reply
 beatsReply n = reply done (n ∷ [])
 
 abbrev pub beatReply : GridBeat → Reply
-beatReply beat = reply done (beat .bar ∷ beat .tempo ∷ beat .time ∷ [])
+beatReply beat = reply done (beat .«bar_position» ∷ beat .tempo ∷ beat .time ∷ [])

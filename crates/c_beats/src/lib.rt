@@ -33,7 +33,11 @@ pub fn reply_beat(answer: BeatReply, result: &mut [u64]) -> u32
     match answer {
         BeatReply::Found(beat) => c_reply::put(
             Code::DONE,
-            &[beat.bar as u64, beat.tempo as u64, beat.time as u64],
+            &[
+                beat.bar_position as u64,
+                beat.tempo as u64,
+                beat.time as u64,
+            ],
             result,
         ),
         BeatReply::Refused(refusal) => refuse(refusal, result),

@@ -1,13 +1,13 @@
 // What a function of the C interface gives back: a code, and values at the front of the result, as many as it takes.
 ghost use Rattle.c_reply.specs.Reply.{reply, Replied};
 
-// The codes of answers that are not refused. A refusal has its own number.
+// A code that a function of the C interface returns. A refusal has its own number.
 pub struct Code {
     pub number: u32,
 }
 
 impl Code {
-    // Open, New, Full, Found.
+    // Open, New, Full, found, or the number of beats.
     pub const DONE: u32 = 0;
 
     pub const SAME: u32 = 64;

@@ -15,16 +15,16 @@ module _ (width : ℕ) (tag : Bytes) where
   pub entry-next : (k : ℕ) → entryAt width (k + 1) ≡ entryAt width k + width
   entry-next k = let e : width * suc k ≡ width * k + width = mul-suc width k in omega arith
 
-  list-counted : (left k : ℕ) → length (entriesFrom width tag left k) ≡ left
+  pub entries-counted : (left k : ℕ) → length (entriesFrom width tag left k) ≡ left
   unfolding entriesFrom
-  list-counted zero k = refl
-  list-counted (suc left) k = rw (list-counted left (k + 1))
+  entries-counted zero k = refl
+  entries-counted (suc left) k = rw (entries-counted left (k + 1))
 
-  list-at : (left k i : ℕ) → i < left → getD (entriesFrom width tag left k) i [] ≡ entry width tag (k + i)
+  pub entries-at : (left k i : ℕ) → i < left → getD (entriesFrom width tag left k) i [] ≡ entry width tag (k + i)
   unfolding entriesFrom
-  list-at zero k i h = absurd (omega arith)
-  list-at (suc left) k zero h = rw (add-zero k)
-  list-at (suc left) k (suc i) h = let e : k + 1 + i ≡ k + suc i = omega arith in rw e at (list-at left (k + 1) i (omega arith))
+  entries-at zero k i h = absurd (omega arith)
+  entries-at (suc left) k zero h = rw (add-zero k)
+  entries-at (suc left) k (suc i) h = let e : k + 1 + i ≡ k + suc i = omega arith in rw e at (entries-at left (k + 1) i (omega arith))
 
   -- the entries left, end to end, are the rest of the tag
   list-joined : (left k : ℕ) → entryAt width (k + left) ≡ length tag → joined (entriesFrom width tag left k) ≡ drop (entryAt width k) tag
@@ -55,13 +55,11 @@ entries-filled width count tag h =
       inside = entry-inside width count tag e;
       whole = entry-whole width count tag e;
       last = e;
-      counted = list-counted width tag count 0;
-      listed = λ k l. rw (zero-add k) at (list-at width tag count 0 k l);
+      counted = entries-counted width tag count 0;
+      listed = λ k l. rw (zero-add k) at (entries-at width tag count 0 k l);
       every = rw (mul-zero width) at (list-joined width tag count 0 (rw (zero-add count) e));
     }
 
--- the sum that `fills` makes fits 64 bits
-pub sum-fits : (width count : ℕ) → width ≤ 4294967295 → count ≤ 4294967295 → 24 + width * count < 18446744073709551616
-sum-fits width count h k =
-    let most : width * count ≤ 4294967295 * 4294967295 = mul-le-mul h k in
-    omega arith
+-- the product of two 32-bit numbers leaves room for the sums that `fill` and `entry` make
+pub product-most : (width count : ℕ) → width ≤ 4294967295 → count ≤ 4294967295 → width * count ≤ 18446744065119617025
+product-most width count h k = mul-le-mul h k

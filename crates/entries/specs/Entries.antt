@@ -6,9 +6,13 @@ use lib.ListN.{length, take, drop}
 use lib.Dec.{eqb}
 use Rattle.lists.specs.Alias.{Bytes}
 
--- where entry k starts, from 0
+-- where the first entry starts in the tag
+abbrev pub entriesStart : ℕ
+entriesStart = 0x18
+
+-- where entry k starts in the tag, k counted from 0
 abbrev pub entryAt : (width k : ℕ) → ℕ
-entryAt width k = 0x18 + width * k
+entryAt width k = entriesStart + width * k
 
 -- the bytes of entry k
 abbrev pub entry : (width : ℕ) (tag : Bytes) (k : ℕ) → Bytes

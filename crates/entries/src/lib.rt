@@ -1,10 +1,29 @@
-// Entries of one width that fill a section from byte `18` on.
+// Entries of one width in a section, from byte `18` on.
 ghost use mathlib.Core.Path.{_≡_};
-ghost use Rattle.entries.specs.Entries.{fills};
+ghost use Rattle.entries.specs.Entries.{entry, fills};
 
-// Whether so many entries of this width end where the section ends. The sum is exact for any width and number.
-pub fn fills(tag: &[u8], width: u32, count: u32) -> bool
-    ensures { λ r. ⌜ r ≡ fills width count (now (tag .entry)) ⌝ }
-{
-    0x18 + (width as u64) * (count as u64) == (tag.len() as u64)
+// So many entries of one width.
+pub struct Entries {
+    pub width: u32,
+    pub count: u32,
+}
+
+impl Entries {
+    // Where the first entry starts in the section.
+    pub const START: usize = 0x18;
+
+    // Whether they end where the section ends. The sum is exact for any width and number.
+    pub fn fill(self, tag: &[u8]) -> bool
+        ensures { λ r. ⌜ r ≡ fills (self .width) (self .count) (now (tag .entry)) ⌝ }
+    {
+        Entries::START + (self.width as usize) * (self.count as usize) == tag.len()
+    }
+
+    // The bytes of entry k, as far as the section has them.
+    pub fn entry(self, tag: &[u8], k: u32) -> &[u8]
+        ensures { λ r. ⌜ now r ≡ entry (self .width) (now (tag .entry)) k ⌝ }
+    {
+        let start = Entries::START + (self.width as usize) * (k as usize);
+        lists::subslice(tag, start, start + (self.width as usize))
+    }
 }

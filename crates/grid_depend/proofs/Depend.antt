@@ -3,7 +3,8 @@ use Prim.Native.Nat.{ℕ}
 use Rattle.lists.specs.Alias.{Bytes}
 use Rattle.number.specs.Agree.{DecidedBy}
 use Rattle.number.proofs.NumberAgree.{agree-less}
-use Rattle.beat_grid.specs.Questions.{counted, beatAmong, askBeats, askBeat}
+use Rattle.anlz.specs.Element.{elementAt}
+use Rattle.beat_grid.specs.Questions.{counted, askBeats, askBeat}
 use Rattle.grid_depend.specs.Bytes.{countByte, beatByte, relevant}
 use Rattle.grid_depend.specs.Depend.{EveryGrid}
 use Rattle.grid_depend.proofs.TagAgree.{count-agree, beat-agree}
@@ -16,7 +17,7 @@ count-decided = grid-agree countByte counted (λ tag other a. count-agree a)
 
 beat-decided : (k : ℕ) (file : Bytes) → DecidedBy (relevant (beatByte k) file) (λ (other : Bytes). askBeat other k) file
 unfolding askBeat
-beat-decided k = grid-agree (beatByte k) (beatAmong k) (λ tag other a. beat-agree k a)
+beat-decided k = grid-agree (beatByte k) (elementAt k) (λ tag other a. beat-agree k a)
 
 pub grid-depends : EveryGrid
 grid-depends file =

@@ -12,12 +12,13 @@ use Rattle.lists.proofs.Choice.{on, or-left, or-right}
 use Rattle.number.specs.Agree.{Agree, within}
 use Rattle.number.proofs.NumberAgree.{within-true, within-both, within-less, agree-less, be16-agree, be32-agree, part-agree}
 use Rattle.refusal.specs.Answer.{Answer, given, refused, andThen}
+use Rattle.anlz.specs.Element.{elementAt}
 use Rattle.entries.specs.Entries.{entryAt, entry, fills, entriesFrom}
-use Rattle.beat_grid.specs.Beat.{beatSize, bar, beatOf, barsHold}
+use Rattle.beat_grid.specs.Beat.{beatSize, bar-position, beatOf, barsHold}
 use Rattle.beat_grid.specs.Grid.{len-beats, gridIn}
-use Rattle.beat_grid.specs.Questions.{counted, beatAmong}
+use Rattle.beat_grid.specs.Questions.{counted}
 use Rattle.beat_grid.specs.Private.{beatsFrom}
-use Rattle.beat_grid.proofs.BeatAmong.{count-short, count-bars, count-given, counted-grid, grid-refused, beat-past, beat-inside}
+use Rattle.beat_grid.proofs.BeatAmong.{count-short, count-bars, count-given, grid-refused, beat-past, beat-inside}
 use Rattle.grid_depend.specs.Bytes.{barByte, countByte, hasBeat, beatByte}
 
 -- beat j
@@ -29,7 +30,7 @@ module _ {s t : Bytes} (j : ℕ) where
       byte : (i : ℕ) → i < beatSize → within 0 size i ≡ true → within (entryAt beatSize j) size (entryAt beatSize j + i) ≡ true
       byte i h e = let both = within-both 0 size i e in within-true (entryAt beatSize j) size (entryAt beatSize j + i) (omega arith) (omega arith)
 
-  bar-agree : Agree (within (entryAt beatSize j) 2) s t → bar (entry beatSize s j) ≡ bar (entry beatSize t j)
+  bar-agree : Agree (within (entryAt beatSize j) 2) s t → bar-position (entry beatSize s j) ≡ bar-position (entry beatSize t j)
   bar-agree a = be16-agree 0x00 (entry-agree 2 a)
 
   fields-agree : Agree (within (entryAt beatSize j) beatSize) s t → beatOf (entry beatSize s j) ≡ beatOf (entry beatSize t j)
@@ -86,16 +87,15 @@ module _ (k : ℕ) {s t : Bytes} (a : Agree (beatByte k s) s t) where
   unfolding beatByte
   beat-bytes h = agree-less (λ i e. or-right (countByte s i) (rw h e)) a
 
-  pub beat-agree : andThen (gridIn s) (beatAmong k) ≡ andThen (gridIn t) (beatAmong k)
+  pub beat-agree : andThen (gridIn s) (elementAt k) ≡ andThen (gridIn t) (elementAt k)
   beat-agree = by (andThen (gridIn s) counted) refl
     where
-      by : (count : Answer ℕ) → count ≡ andThen (gridIn s) counted → andThen (gridIn s) (beatAmong k) ≡ andThen (gridIn t) (beatAmong k)
-      by (refused f) e = sym (grid-refused s (beatAmong k) e) ∙ grid-refused t (beatAmong k) (e ∙ count-agree count-bytes)
+      by : (count : Answer ℕ) → count ≡ andThen (gridIn s) counted → andThen (gridIn s) (elementAt k) ≡ andThen (gridIn t) (elementAt k)
+      by (refused f) e = sym (grid-refused s (elementAt k) e) ∙ grid-refused t (elementAt k) (e ∙ count-agree count-bytes)
       by (given n) e =
-          let c = counted-grid s e in
-          let d = counted-grid t (e ∙ count-agree count-bytes) in
+          let same = e ∙ count-agree count-bytes in
           on (ltb k n)
           (λ h.
           let inside = ltb-true k n h in
-          sym (beat-inside s c k inside) ∙ rw (fields-agree k (beat-bytes (rw (← e) h))) (beat-inside t d k inside))
-          (λ h. let past = ltb-false k n h in sym (beat-past s c k past) ∙ beat-past t d k past)
+          sym (beat-inside s e k inside) ∙ rw (fields-agree k (beat-bytes (rw (← e) h))) (beat-inside t same k inside))
+          (λ h. let past = ltb-false k n h in sym (beat-past s e k past) ∙ beat-past t same k past)

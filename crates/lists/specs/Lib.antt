@@ -3,3 +3,4 @@ pub mod Any
 pub mod Write
 pub mod Nth
 pub mod Member
+pub mod Subslice

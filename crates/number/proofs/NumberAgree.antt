@@ -1,5 +1,6 @@
--- Section 7: agreement on relevant bytes gives equal numbers (byte-agree, two-agree, four-agree and, from these, le16-agree to be32-agree), and agreement of a whole that of its
--- parts (drop-agree, take-agree, part-agree) and of fewer bytes (agree-less, agree-inside).
+-- Section 7 and rules 14.16 to 14.19: agreement on relevant bytes gives equal numbers (byte-agree, two-agree, four-agree and, from these,
+-- le16-agree to be32-agree), and agreement of a whole that of its parts (drop-agree, take-agree, part-agree) and of fewer bytes
+-- (agree-less, agree-inside).
 use mathlib.Core.Path.{_≡_, sym, _∙_}
 use mathlib.Core.Bool.{Bool, true, false, _&&_}
 use Prim.Native.Nat.{ℕ, _+_, _*_, _<_, _≤_}

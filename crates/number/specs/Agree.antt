@@ -1,4 +1,4 @@
--- Section 7: when two lists of bytes agree on relevant bytes, those that an answer may depend on.
+-- Section 7 and rules 14.16 to 14.19: when two lists of bytes agree on relevant bytes, those that an answer may depend on.
 -- A definition's agreement law says that lists which agree on the bytes that it names give the same result.
 use mathlib.Core.Path.{_≡_}
 use mathlib.Core.Bool.{Bool, true, _&&_}

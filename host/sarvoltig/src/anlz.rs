@@ -20,7 +20,7 @@ use std::ops::Range;
 ///     \0\x02\x30\xd4\0\0\x01\xf9";
 /// let anlz = Anlz::new(file);
 /// assert_eq!(anlz.beats()?, 2);
-/// assert_eq!(anlz.beat(1)?, Beat { bar: 2, tempo: 12_500, time: 505 });
+/// assert_eq!(anlz.beat(1)?, Beat { bar_position: 2, tempo: 12_500, time: 505 });
 /// assert_eq!(anlz.beat(2), Err(Refusal::NoRow));
 /// # Ok::<(), Refusal>(())
 /// ```
@@ -100,8 +100,8 @@ impl<'a> Anlz<'a> {
     ///     \0\x01\x30\xd4\0\0\x01\xf9";
     /// let beats = Anlz::new(file).iter()?;
     /// assert_eq!(beats.len(), 2);
-    /// let bars: Vec<u16> = beats.map(|beat| beat.bar).collect();
-    /// assert_eq!(bars, [4, 1]);
+    /// let positions: Vec<u16> = beats.map(|beat| beat.bar_position).collect();
+    /// assert_eq!(positions, [4, 1]);
     /// # Ok::<(), sarvoltig::Refusal>(())
     /// ```
     pub fn iter(&self) -> Result<BeatIter<'a>, Refusal> {
@@ -113,13 +113,13 @@ impl<'a> Anlz<'a> {
 /// A beat of the grid.
 ///
 /// ```
-/// let beat = sarvoltig::Beat { bar: 1, tempo: 12_550, time: 61_250 };
+/// let beat = sarvoltig::Beat { bar_position: 1, tempo: 12_550, time: 61_250 };
 /// assert_eq!(f64::from(beat.tempo) / 100.0, 125.5);
 /// ```
 #[derive(Clone, Copy, Debug, PartialEq, Eq, Hash)]
 pub struct Beat {
     /// Its position in the bar, 1 to 4.
-    pub bar: u16,
+    pub bar_position: u16,
     /// Beats per minute times 100.
     pub tempo: u16,
     /// Milliseconds from the track's start, at its normal speed.
@@ -128,9 +128,9 @@ pub struct Beat {
 
 impl Beat {
     /// The beat of its numbers, in the order of rule 14.11.
-    fn from_numbers([bar, tempo, time]: [u64; 3]) -> Self {
+    fn from_numbers([bar_position, tempo, time]: [u64; 3]) -> Self {
         Self {
-            bar: bar as u16,
+            bar_position: bar_position as u16,
             tempo: tempo as u16,
             time: time as u32,
         }
@@ -145,7 +145,7 @@ impl Beat {
 /// #     PQTZ\0\0\0\x18\0\0\0\x28\0\0\0\0\0\x80\0\0\0\0\0\x02\
 /// #     \0\x01\x30\xd4\0\0\0\x19\0\x02\x30\xd4\0\0\x01\xf9";
 /// let mut beats = Anlz::new(file).iter()?;
-/// assert_eq!(beats.next(), Some(Beat { bar: 1, tempo: 12_500, time: 25 }));
+/// assert_eq!(beats.next(), Some(Beat { bar_position: 1, tempo: 12_500, time: 25 }));
 /// assert_eq!(beats.len(), 1);
 /// # Ok::<(), sarvoltig::Refusal>(())
 /// ```

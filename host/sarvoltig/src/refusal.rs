@@ -57,7 +57,7 @@ pub enum Refusal {
     NoSlot,
     /// 20: the header of an ANLZ file is broken, or its len_file is not the file's length.
     AnlzHeader,
-    /// 21: a section of an ANLZ file is malformed or leaves the file.
+    /// 21: a section of an ANLZ file is malformed or leaves the file, or bytes are left over behind the last.
     Section,
     /// 22: an ANLZ file has no beat grid.
     NoGrid,

@@ -3,41 +3,11 @@
 //! The beats are those of the proved library. It answers nothing about sections that are no grid, so their list is that
 //! of the reference.
 
-use sarvoltig::{Anlz, Beat, Refusal};
+use crate::failure::Failure;
+use sarvoltig::{Anlz, Beat};
 use sarvoltig_reference::anlz::{sections, Section};
-use std::fmt;
 use std::io::{self, Write};
 use std::time::Duration;
-
-/// Why not all was printed.
-#[derive(Debug)]
-pub enum Failure {
-    /// The file is refused.
-    Refused(Refusal),
-    /// The file cannot be read, or nothing can be printed.
-    Io(io::Error),
-}
-
-impl From<Refusal> for Failure {
-    fn from(refusal: Refusal) -> Self {
-        Self::Refused(refusal)
-    }
-}
-
-impl From<io::Error> for Failure {
-    fn from(error: io::Error) -> Self {
-        Self::Io(error)
-    }
-}
-
-impl fmt::Display for Failure {
-    fn fmt(&self, f: &mut fmt::Formatter<'_>) -> fmt::Result {
-        match self {
-            Self::Refused(refusal) => write!(f, "refused {}: {refusal}", refusal.number()),
-            Self::Io(error) => error.fmt(f),
-        }
-    }
-}
 
 /// Prints the sections, the tempos and the beats of a file. Before each beat `wait` is called with the beat's time.
 ///
@@ -101,9 +71,9 @@ fn print_beats(
     mut wait: impl FnMut(Duration),
 ) -> io::Result<()> {
     writeln!(out, "\nbeats: {}", beats.len())?;
-    writeln!(out, "      beat        time     BPM  bar")?;
+    writeln!(out, "first beat        time     BPM  bar positions")?;
     let mut first = 0;
-    for bar in beats.chunk_by(|one, next| one.bar < next.bar) {
+    for bar in beats.chunk_by(|one, next| one.bar_position < next.bar_position) {
         print_bar(first, bar, out, &mut wait)?;
         first += bar.len();
     }
@@ -124,10 +94,10 @@ fn print_bar(
             let (time, bpm) = (minutes(beat.time), bpm(beat.tempo));
             write!(out, "{first:>10}  {time}  {bpm} ")?;
         }
-        let width = 2 * usize::from(beat.bar - printed);
-        write!(out, "{:>width$}", beat.bar)?;
+        let width = 2 * usize::from(beat.bar_position - printed);
+        write!(out, "{:>width$}", beat.bar_position)?;
         out.flush()?;
-        printed = beat.bar;
+        printed = beat.bar_position;
     }
     writeln!(out)
 }

@@ -5,6 +5,7 @@
 #![deny(missing_docs)]
 
 pub mod compare;
+pub mod failure;
 pub mod grid;
 pub mod library;
 pub mod replay;

@@ -273,7 +273,7 @@ fn narrow<T: TryFrom<u64>>(number: u64) -> Result<T, Failure> {
 
 fn found_beat(values: &[u64]) -> Result<Reply, Failure> {
     Ok(Reply::Beat(Beat {
-        bar: narrow(values[0])?,
+        bar_position: narrow(values[0])?,
         tempo: narrow(values[1])?,
         time: narrow(values[2])?,
     }))

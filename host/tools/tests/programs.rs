@@ -2,7 +2,8 @@
 
 use sarvoltig_reference::schedule::{anlz_run, compared_run, Call};
 use sarvoltig_reference::{anlz, generate};
-use sarvoltig_tools::grid::{show, Failure};
+use sarvoltig_tools::failure::Failure;
+use sarvoltig_tools::grid::show;
 use std::fs;
 use std::io::Write;
 use std::path::{Path, PathBuf};
@@ -169,7 +170,7 @@ fn grid(file: &Path, words: &[&str]) -> Output {
 }
 
 /// What `grid` prints of a file, and why not all of it.
-fn shown(file: &[u8]) -> (String, Option<Failure>) {
+fn printed(file: &[u8]) -> (String, Option<Failure>) {
     let mut out = Vec::new();
     let failure = show(file, &mut out, |_| ()).err();
     (String::from_utf8(out).expect("text"), failure)
@@ -219,7 +220,7 @@ tempos: 2
        128    1:17.305  104.00         191
 
 beats: 319
-      beat        time     BPM  bar
+first beat        time     BPM  bar positions
          0    0:00.120   99.50  1 2 3 4
          4    0:02.532   99.50  1 2 3 4
 ";
@@ -230,7 +231,7 @@ beats: 319
 
 #[test]
 fn grid_starts_a_line_with_each_bar() {
-    let (text, failure) = shown(&anlz_file(b"PPTH", &[3, 4, 2, 2, 3, 1, 4], &[]));
+    let (text, failure) = printed(&anlz_file(b"PPTH", &[3, 4, 2, 2, 3, 1, 4], &[]));
     assert!(failure.is_none());
     let bars = "\
          0    0:00.000  125.00      3 4
@@ -239,7 +240,7 @@ fn grid_starts_a_line_with_each_bar() {
          5    0:00.100  125.00  1     4
 ";
     assert!(text.ends_with(bars), "{text}");
-    let (text, failure) = shown(&anlz_file(b"PPTH", &[], &[]));
+    let (text, failure) = printed(&anlz_file(b"PPTH", &[], &[]));
     assert!(failure.is_none() && text.contains("beats: 0\n"), "{text}");
 }
 
@@ -254,13 +255,13 @@ fn grid_waits_for_each_beat() {
     let output = grid(&path, &["--pause"]);
     assert!(start.elapsed() >= Duration::from_millis(60));
     assert!(output.status.success());
-    assert_eq!(String::from_utf8_lossy(&output.stdout), shown(&file).0);
+    assert_eq!(String::from_utf8_lossy(&output.stdout), printed(&file).0);
 }
 
 #[test]
 fn grid_prints_no_control_characters() {
     let file = anlz_file(b"\x1b[\x9b\\", &[1], &[]);
-    let (text, _) = shown(&file);
+    let (text, _) = printed(&file);
     assert!(text.contains("  \\x1b[\\x9b\\\\\n"), "{text}");
     let output = grid(Path::new("\x1b[2J\u{9b}\n"), &[]);
     let error = String::from_utf8(output.stderr).expect("text");
@@ -272,7 +273,7 @@ fn grid_prints_no_control_characters() {
 #[test]
 fn grid_prints_the_sections_where_the_grid_is_refused() {
     let no_section = |file: &[u8], number| {
-        let (text, failure) = shown(file);
+        let (text, failure) = printed(file);
         assert_eq!(text, "");
         assert!(matches!(failure, Some(Failure::Refused(refusal)) if refusal.number() == number));
     };
@@ -280,7 +281,7 @@ fn grid_prints_the_sections_where_the_grid_is_refused() {
     no_section(&good[..good.len() - 1], 20);
     no_section(&anlz_file(b"PPTH", &[1, 2], &[0; 11]), 21);
     let sections = |file: &[u8], number| {
-        let (text, failure) = shown(file);
+        let (text, failure) = printed(file);
         assert!(text.starts_with("sections: 2\n") && text.lines().count() == 4);
         assert!(matches!(failure, Some(Failure::Refused(refusal)) if refusal.number() == number));
     };

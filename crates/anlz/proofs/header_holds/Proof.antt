@@ -1,20 +1,18 @@
--- `anlz::header_holds` meets its contract: its tests are those of `headerHolds`, in that order.
-use Rattle.lists.proofs.Choice.{tests}
-use Rattle.anlz.specs.Header.{headerHolds}
+-- `anlz::header_holds` meets its contract: its tests are those of `headerHolds`, in that order (proofs/HeaderTests).
+use borrow.Author.Tests.{le-leb, lt-leb, eq-eqb, ne-eqb}
+use Rattle.anlz.proofs.HeaderTests.{header-cut, other-code, header-tests}
 use borrow.Author.Needs.{needs}
 use Rattle.anlz.proofs.header_holds.Statement.{statement}
 use Rattle.anlz.proofs.header_holds.Tie as tie
 
 returns : tie.Need-returns
-unfolding headerHolds
-returns c = search tests
+returns c = header-cut _ (c .if1 .taken)
 
 u32-be-at-requires : tie.Need-u32-be-at-requires
 u32-be-at-requires c κs = search needs
 
 returns-2 : tie.Need-returns-2
-unfolding headerHolds
-returns-2 c = search (tests, ← c .before .u32-be-at .ensures)
+returns-2 c = other-code _ (c .before .before .if1 .left) (c .before .u32-be-at .ensures) (c .if2 .taken)
 
 u32-be-at-requires-2 : tie.Need-u32-be-at-requires-2
 u32-be-at-requires-2 c κs = search needs
@@ -29,16 +27,25 @@ cast-len-file : tie.Need-cast-len-file
 cast-len-file c = search needs
 
 returns-3 : tie.Need-returns-3
-unfolding headerHolds
-returns-3 c = search (tests, ← c .before .u32-be-at3 .ensures, ← c .before .before .before .before .u32-be-at .ensures)
+returns-3 c =
+    let lengths = c .before in
+    let code = lengths .before .before in
+    let verdict = header-tests _ (code .before .before .if1 .left) (code .before .u32-be-at .ensures) (code .if2 .left) in
+    rw (verdict (lengths .before .u32-be-at2 .ensures) (lengths .u32-be-at3 .ensures), ne-eqb _ _ (c .if3 .taken))
 
 returns-4 : tie.Need-returns-4
-unfolding headerHolds
-returns-4 c = search (tests, ← c .before .before .u32-be-at3 .ensures, ← c .before .before .before .u32-be-at2 .ensures, ← c .before .before .before .before .before .u32-be-at .ensures)
+returns-4 c =
+    let lengths = c .before .before in
+    let code = lengths .before .before in
+    let verdict = header-tests _ (code .before .before .if1 .left) (code .before .u32-be-at .ensures) (code .if2 .left) in
+    rw (verdict (lengths .before .u32-be-at2 .ensures) (lengths .u32-be-at3 .ensures), eq-eqb _ _ (c .before .if3 .left), le-leb _ _ (c .if4 .taken))
 
 returns-5 : tie.Need-returns-5
-unfolding headerHolds
-returns-5 c = search (tests, ← c .before .before .u32-be-at3 .ensures, ← c .before .before .before .u32-be-at2 .ensures, ← c .before .before .before .before .before .u32-be-at .ensures)
+returns-5 c =
+    let lengths = c .before .before in
+    let code = lengths .before .before in
+    let verdict = header-tests _ (code .before .before .if1 .left) (code .before .u32-be-at .ensures) (code .if2 .left) in
+    rw (verdict (lengths .before .u32-be-at2 .ensures) (lengths .u32-be-at3 .ensures), eq-eqb _ _ (c .before .if3 .left), lt-leb _ _ (c .if4 .left))
 
 pub header-holds-spec : {M : Type 1} → statement M
 header-holds-spec =

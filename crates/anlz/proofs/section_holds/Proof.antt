@@ -1,7 +1,7 @@
+-- `anlz::section_holds` meets its contract: its tests are those of `sectionHolds`, in that order.
 use native.Mathlib.Omega.{arith}
 use borrow.Author.Tests.{le-leb, lt-leb}
 use Rattle.anlz.proofs.SectionTests.{section-cut, section-tests}
--- `anlz::section_holds` meets its contract: its tests are those of `sectionHolds`, in that order.
 use borrow.Author.Needs.{needs}
 use Rattle.anlz.proofs.section_holds.Statement.{statement}
 use Rattle.anlz.proofs.section_holds.Tie as tie
@@ -34,13 +34,22 @@ cast-len-tag : tie.Need-cast-len-tag
 cast-len-tag c = search needs
 
 returns-3 : tie.Need-returns-3
-returns-3 c = let s = c .before .before in let a = s .before .before .before .before .args in rw (section-tests (a .file .now) (a .place) (omega arith) (s .u32-be-at .ensures) (c .before .u32-be-at2 .ensures), lt-leb _ _ (c .if3 .taken))
+returns-3 c =
+    let tag = c .before in
+    let header = tag .before in
+    rw (section-tests _ _ (omega arith) (header .u32-be-at .ensures) (tag .u32-be-at2 .ensures), lt-leb _ _ (c .if3 .taken))
 
 returns-4 : tie.Need-returns-4
-returns-4 c = let s = c .before .before in let a = s .before .before .before .before .before .args in rw (section-tests (a .file .now) (a .place) (omega arith) (s .before .u32-be-at .ensures) (s .u32-be-at2 .ensures), le-leb _ _ (c .before .if3 .left), le-leb _ _ (c .if4 .taken))
+returns-4 c =
+    let tag = c .before .before in
+    let header = tag .before in
+    rw (section-tests _ _ (omega arith) (header .u32-be-at .ensures) (tag .u32-be-at2 .ensures), le-leb _ _ (c .before .if3 .left), le-leb _ _ (c .if4 .taken))
 
 returns-5 : tie.Need-returns-5
-returns-5 c = let s = c .before .before in let a = s .before .before .before .before .before .args in rw (section-tests (a .file .now) (a .place) (omega arith) (s .before .u32-be-at .ensures) (s .u32-be-at2 .ensures), le-leb _ _ (c .before .if3 .left), lt-leb _ _ (c .if4 .left))
+returns-5 c =
+    let tag = c .before .before in
+    let header = tag .before in
+    rw (section-tests _ _ (omega arith) (header .u32-be-at .ensures) (tag .u32-be-at2 .ensures), le-leb _ _ (c .before .if3 .left), lt-leb _ _ (c .if4 .left))
 
 pub section-holds-spec : {M : Type 1} → statement M
 section-holds-spec =

@@ -1,26 +1,25 @@
--- `beat_grid::bars_hold` meets its contract: by the loop's invariant `Judging` (proofs/BarsLoop); each beat is whole inside the section.
+-- `beat_grid::bars_hold` meets its contract: by the loop's invariant `Judging` (proofs/BarsLoop).
 use mathlib.Core.Path.{sym, _∙_}
 use Prim.Native.Nat.{_-_}
 use borrow.Author.Needs.{needs}
 use borrow.Author.Tests.{not-true, not-false}
-use Rattle.entries.proofs.Filled.{entries-filled}
-use Rattle.beat_grid.specs.Beat.{beatSize, barsHold}
+use Rattle.beat_grid.specs.Beat.{barsHold}
 use Rattle.beat_grid.specs.Private.{beatsFrom}
 use Rattle.beat_grid.proofs.BarsLoop.{Judging, bars-begin, bars-bad, bars-next, bars-end}
 use Rattle.beat_grid.proofs.bars_hold.Statement.{statement}
 use Rattle.beat_grid.proofs.bars_hold.Tie as tie
 
 abbrev Inv-loop : tie.InvT-loop
-Inv-loop tag count k₀ k = Judging tag (barsHold (beatsFrom tag count 0)) count k
+Inv-loop tag count beats k₀ k = Judging tag (barsHold (beatsFrom tag count 0)) count k
 
 abbrev μ-loop : tie.MeasureT-loop
-μ-loop tag count k₀ k = count - k
+μ-loop tag count beats k₀ k = count - k
 
 loop-holds : tie.Need-loop-holds Inv-loop μ-loop
 loop-holds c = bars-begin _ _
 
-entry-at-requires : tie.Need-entry-at-requires Inv-loop μ-loop
-entry-at-requires c κs = entries-filled beatSize _ _ (c .before .before .before .pre) .inside _ (c .loop-test .taken)
+entry-requires : tie.Need-entry-requires Inv-loop μ-loop
+entry-requires c κs = search needs
 
 u16-be-at-requires : tie.Need-u16-be-at-requires Inv-loop μ-loop
 u16-be-at-requires c κs = search needs
@@ -31,9 +30,10 @@ bar-holds-requires c κs = search needs
 returns : tie.Need-returns Inv-loop μ-loop
 returns c =
     let bar = c .before in
-    let turn = bar .before .before .before in
+    let part = bar .before .before in
+    let turn = part .before in
     bars-bad (turn .before .loop .inv) (turn .loop-test .taken)
-    (rw (bar .before .u16-be-at .ensures, bar .before .before .entry-at .ensures) at (sym (bar .bar-holds .ensures) ∙ not-true _ (c .if1 .taken)))
+    (rw (bar .before .u16-be-at .ensures, part .entry .ensures) at (sym (bar .bar-holds .ensures) ∙ not-true _ (c .if1 .taken)))
 
 add-k : tie.Need-add-k Inv-loop μ-loop
 add-k c = search needs
@@ -44,9 +44,10 @@ loop-less c = search needs
 loop-again : tie.Need-loop-again Inv-loop μ-loop
 loop-again c =
     let bar = c .before in
-    let turn = bar .before .before .before in
+    let part = bar .before .before in
+    let turn = part .before in
     bars-next (turn .before .loop .inv) (turn .loop-test .taken)
-    (rw (bar .before .u16-be-at .ensures, bar .before .before .entry-at .ensures) at (sym (bar .bar-holds .ensures) ∙ not-false _ (c .if1 .left)))
+    (rw (bar .before .u16-be-at .ensures, part .entry .ensures) at (sym (bar .bar-holds .ensures) ∙ not-false _ (c .if1 .left)))
 
 returns-2 : tie.Need-returns-2 Inv-loop μ-loop
 returns-2 c = bars-end (c .before .loop .inv) (c .loop-test .left)
@@ -58,7 +59,7 @@ bars-hold-spec =
     Inv-loop
     μ-loop
     loop-holds
-    entry-at-requires
+    entry-requires
     u16-be-at-requires
     bar-holds-requires
     returns

@@ -23,11 +23,15 @@ enum-known-grid-2 c = search needs
 
 returns : tie.Need-returns
 unfolding askBeats
-returns c = let told = c .before .before .before in c .beats-in .ensures ∙ grid-found _ _ (rw (told .grid .given .1) at (told .before .before .grid-section .ensures)) (c .before .bytes .ensures)
+returns c =
+    let told = c .before .before .before in
+    c .beats-in .ensures ∙ grid-found _ _ (rw (told .grid .given .1) at (told .before .before .grid-section .ensures)) (c .before .bytes .ensures)
 
 returns-2 : tie.Need-returns-2
 unfolding askBeats
-returns-2 c = let told = c .before in grid-missing _ _ (rw (told .grid2 .given .1) at (told .before .before .grid-section .ensures))
+returns-2 c =
+    let told = c .before in
+    grid-missing _ _ (rw (told .grid2 .given .1) at (told .before .before .grid-section .ensures))
 
 pub beats-spec : {M : Type 1} → statement M
 beats-spec =

@@ -9,32 +9,28 @@ use Rattle.beat_grid.proofs.beats_in.Tie as tie
 u32-be-at-requires : tie.Need-u32-be-at-requires
 u32-be-at-requires c κs = search needs
 
-cast-fills : tie.Need-cast-fills
-cast-fills c = search needs
-
-fills-requires : tie.Need-fills-requires
-fills-requires c κs = search needs
+fill-requires : tie.Need-fill-requires
+fill-requires c κs = search needs
 
 returns : tie.Need-returns
-returns c = count-short _ (c .before .before .u32-be-at .ensures) (sym (c .before .fills .ensures) ∙ not-true _ (c .if1 .taken))
+returns c = count-short _ (c .before .before .u32-be-at .ensures) (sym (c .before .fill .ensures) ∙ not-true _ (c .if1 .taken))
 
 bars-hold-requires : tie.Need-bars-hold-requires
-bars-hold-requires c κs = sym (c .before .fills .ensures) ∙ not-false _ (c .if1 .left)
+bars-hold-requires c κs = search needs
 
 returns-2 : tie.Need-returns-2
-returns-2 c = let s = c .before .before in count-bars _ (s .before .before .u32-be-at .ensures) (sym (s .before .fills .ensures) ∙ not-false _ (s .if1 .left)) (sym (c .before .bars-hold .ensures) ∙ not-true _ (c .if2 .taken))
+returns-2 c =
+    let fill = c .before .before in
+    count-bars _ (fill .before .before .u32-be-at .ensures) (sym (fill .before .fill .ensures) ∙ not-false _ (fill .if1 .left))
+    (sym (c .before .bars-hold .ensures) ∙ not-true _ (c .if2 .taken))
 
 returns-3 : tie.Need-returns-3
-returns-3 c = let s = c .before .before in count-given _ (s .before .before .u32-be-at .ensures) (sym (s .before .fills .ensures) ∙ not-false _ (s .if1 .left)) (sym (c .before .bars-hold .ensures) ∙ not-false _ (c .if2 .left))
+returns-3 c =
+    let fill = c .before .before in
+    count-given _ (fill .before .before .u32-be-at .ensures) (sym (fill .before .fill .ensures) ∙ not-false _ (fill .if1 .left))
+    (sym (c .before .bars-hold .ensures) ∙ not-false _ (c .if2 .left))
 
 pub beats-in-spec : {M : Type 1} → statement M
 beats-in-spec =
     tie.close
-    (tie.spec
-    u32-be-at-requires
-    cast-fills
-    fills-requires
-    returns
-    bars-hold-requires
-    returns-2
-    returns-3)
+    (tie.spec u32-be-at-requires fill-requires returns bars-hold-requires returns-2 returns-3)

@@ -8,7 +8,7 @@ use crate::model::Refusal;
 #[derive(Clone, Copy, Debug, PartialEq, Eq)]
 pub struct Beat {
     /// The bar position, from 1 to 4.
-    pub bar: u16,
+    pub bar_position: u16,
     /// The tempo in beats per minute, times 100.
     pub tempo: u16,
     /// The time in milliseconds.
@@ -18,7 +18,7 @@ pub struct Beat {
 impl Beat {
     fn read(entry: &[u8]) -> Beat {
         Beat {
-            bar: u16_at(entry, 0x00),
+            bar_position: u16_at(entry, 0x00),
             tempo: u16_at(entry, 0x02),
             time: u32_at(entry, 0x04),
         }
@@ -41,7 +41,10 @@ impl Beat {
 pub fn grid(file: &[u8]) -> Result<Vec<Beat>, Refusal> {
     let entries = entries(grid_tag(file)?)?;
     let beats: Vec<Beat> = entries.chunks_exact(BEAT).map(Beat::read).collect();
-    if beats.iter().all(|beat| (1..=4).contains(&beat.bar)) {
+    if beats
+        .iter()
+        .all(|beat| (1..=4).contains(&beat.bar_position))
+    {
         Ok(beats)
     } else {
         Err(Refusal::plain(24))

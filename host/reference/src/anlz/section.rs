@@ -26,7 +26,7 @@ pub struct Section {
 }
 
 impl Section {
-    /// Where it ends. The sum does not wrap (rule 14.5).
+    /// Where it ends. The sum does not wrap (rule 14.4).
     ///
     /// ```
     /// # use sarvoltig_reference::anlz::Section;

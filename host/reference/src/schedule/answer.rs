@@ -69,7 +69,11 @@ impl fmt::Display for Reply {
                 encoding,
             }) => write!(f, "text {place} {len} {}", encoding_name(*encoding)),
             Reply::Beats(beats) => write!(f, "beats {beats}"),
-            Reply::Beat(Beat { bar, tempo, time }) => write!(f, "beat {bar} {tempo} {time}"),
+            Reply::Beat(Beat {
+                bar_position,
+                tempo,
+                time,
+            }) => write!(f, "beat {bar_position} {tempo} {time}"),
             Reply::Rows(Rows::Waiting { page, rows, pages })
             | Reply::Record(_, RecordReply::Waiting { page, rows, pages })
             | Reply::Text(TextReply::Waiting { page, rows, pages }) => {

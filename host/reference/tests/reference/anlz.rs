@@ -269,7 +269,7 @@ fn len_header_is_not_used() {
     for len_header in 12..=0x28 {
         let mut grid = good_grid(&[3, 4]);
         grid[7] = len_header;
-        let found = beat(&file(&[other(), grid]), 0).map(|beat| beat.bar);
+        let found = beat(&file(&[other(), grid]), 0).map(|beat| beat.bar_position);
         assert_eq!(found, Ok(3), "{len_header}");
     }
 }
@@ -302,12 +302,12 @@ fn bar_positions() {
 fn numbers_of_beats() {
     let file = file(&[other(), good_grid(&[4, 1])]);
     let first = Beat {
-        bar: 4,
+        bar_position: 4,
         tempo: 0x1234,
         time: 0x89ab_cdef,
     };
     let second = Beat {
-        bar: 1,
+        bar_position: 1,
         tempo: 0x1235,
         time: 0x89ab_cdf0,
     };
@@ -454,6 +454,8 @@ fn the_demo_has_one_change_of_tempo() {
     let beats = grid(&generate::demo()).expect("a good file");
     let changes = beats.windows(2).filter(|two| two[0].tempo != two[1].tempo);
     assert_eq!(changes.count(), 1);
-    let in_order = beats.windows(2).all(|two| two[1].bar == 1 + two[0].bar % 4);
+    let in_order = beats
+        .windows(2)
+        .all(|two| two[1].bar_position == 1 + two[0].bar_position % 4);
     assert!(in_order);
 }

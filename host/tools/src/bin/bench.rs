@@ -339,13 +339,16 @@ fn grid_entries(file: &[u8]) -> Option<&[u8]> {
 /// The number of beats and beat `k`, after a look at the bar position of every beat, without an allocation.
 fn plain_pass(file: &[u8], k: u64) -> Option<(u32, Beat)> {
     let entries = grid_entries(file)?.chunks_exact(8);
-    let bar = |entry: &[u8]| u16::from_be_bytes([entry[0], entry[1]]);
-    if !entries.clone().all(|entry| (1..=4).contains(&bar(entry))) {
+    let bar_position = |entry: &[u8]| u16::from_be_bytes([entry[0], entry[1]]);
+    if !entries
+        .clone()
+        .all(|entry| (1..=4).contains(&bar_position(entry)))
+    {
         return None;
     }
     let entry = entries.clone().nth(k as usize)?;
     let beat = Beat {
-        bar: bar(entry),
+        bar_position: bar_position(entry),
         tempo: u16::from_be_bytes([entry[2], entry[3]]),
         time: anlz_number(entry, 4)? as u32,
     };
@@ -375,8 +378,10 @@ fn beats() {
     let reference = anlz::grid(&file).expect("a grid");
     let numbers = reference
         .iter()
-        .map(|beat| (beat.bar, beat.tempo, beat.time));
-    assert!(numbers.eq(all.iter().map(|beat| (beat.bar, beat.tempo, beat.time))));
+        .map(|beat| (beat.bar_position, beat.tempo, beat.time));
+    assert!(numbers.eq(all
+        .iter()
+        .map(|beat| (beat.bar_position, beat.tempo, beat.time))));
     against_passes("number of beats, grid of 3,000", &file, 100_000, |anlz| {
         black_box(anlz.beats().expect("a grid"));
     });

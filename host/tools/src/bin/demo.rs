@@ -6,8 +6,8 @@
 
 use sarvoltig::{map_words, Delivered, Intake, Record, Refusal, Table, Text, Track, Walk, BLOCK};
 use sarvoltig_reference::rng::Rng;
+use sarvoltig_tools::failure::Failure;
 use std::collections::{HashMap, HashSet};
-use std::fmt;
 use std::io::{self, IsTerminal, Write};
 use std::process::ExitCode;
 use std::thread::sleep;
@@ -317,35 +317,6 @@ fn menu(nodes: &[Node]) -> Vec<(usize, &Node)> {
         }
     }
     menu
-}
-
-/// What ends the demo early.
-enum Failure {
-    /// The file is refused.
-    Refused(Refusal),
-    /// The file cannot be read, or nothing can be printed.
-    Io(io::Error),
-}
-
-impl From<Refusal> for Failure {
-    fn from(refusal: Refusal) -> Self {
-        Self::Refused(refusal)
-    }
-}
-
-impl From<io::Error> for Failure {
-    fn from(error: io::Error) -> Self {
-        Self::Io(error)
-    }
-}
-
-impl fmt::Display for Failure {
-    fn fmt(&self, f: &mut fmt::Formatter<'_>) -> fmt::Result {
-        match self {
-            Self::Refused(refusal) => write!(f, "refused {}: {refusal}", refusal.number()),
-            Self::Io(error) => error.fmt(f),
-        }
-    }
 }
 
 /// Prints the playlists with their tracks, at most so many of each, folders opened out.

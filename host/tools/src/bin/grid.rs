@@ -3,7 +3,8 @@
 //! With `--pause` each beat is printed when its time has come, without it all at once. A file that is refused ends with
 //! status 1, one that cannot be read with 2.
 
-use sarvoltig_tools::grid::{show, Failure};
+use sarvoltig_tools::failure::Failure;
+use sarvoltig_tools::grid::show;
 use std::env;
 use std::ffi::OsString;
 use std::fs;
@@ -22,12 +23,14 @@ struct Options {
 }
 
 impl Options {
-    fn parse(mut words: impl Iterator<Item = OsString>) -> Option<Self> {
-        let file = words.next()?.into();
-        let option = words.next();
-        let pause = option.as_ref().is_some_and(|word| word == "--pause");
-        let is_whole = pause == option.is_some() && words.next().is_none();
-        is_whole.then_some(Self { file, pause })
+    /// A file, and `--pause` before or behind it.
+    fn parse(words: impl Iterator<Item = OsString>) -> Option<Self> {
+        let (options, files): (Vec<_>, Vec<_>) = words.partition(|word| word == "--pause");
+        let [file] = <[OsString; 1]>::try_from(files).ok()?;
+        (options.len() < 2).then(|| Self {
+            file: file.into(),
+            pause: !options.is_empty(),
+        })
     }
 }
 

@@ -52,7 +52,7 @@ fn beats() -> Vec<Beat> {
     while time < DURATION {
         let tempo = TEMPOS[usize::from(beats.len() >= CHANGE)];
         beats.push(Beat {
-            bar: 1 + (beats.len() % 4) as u16,
+            bar_position: 1 + (beats.len() % 4) as u16,
             tempo,
             time: (time / 1000) as u32,
         });

@@ -165,12 +165,12 @@ fn random_beats(rng: &mut Rng) -> Vec<Beat> {
     (0..count as u32)
         .map(|number| match any_numbers {
             true => Beat {
-                bar: 1 + rng.below(4) as u16,
+                bar_position: 1 + rng.below(4) as u16,
                 tempo: rng.next_u64() as u16,
                 time: rng.next_u64() as u32,
             },
             false => Beat {
-                bar: 1 + (first + (number % 4) as u16) % 4,
+                bar_position: 1 + (first + (number % 4) as u16) % 4,
                 tempo,
                 time: 6_000_000 / u32::from(tempo) * number,
             },

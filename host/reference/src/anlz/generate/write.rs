@@ -31,7 +31,7 @@ impl Tag {
         let mut body = vec![0, 0, 0, 0, 0, 0x80, 0, 0];
         body.extend((beats.len() as u32).to_be_bytes());
         for beat in beats {
-            body.extend(beat.bar.to_be_bytes());
+            body.extend(beat.bar_position.to_be_bytes());
             body.extend(beat.tempo.to_be_bytes());
             body.extend(beat.time.to_be_bytes());
         }

@@ -10,10 +10,10 @@ use Rattle.anlz.specs.Header.{envelope, len-header}
 use Rattle.anlz.specs.Sections.{sections}
 
 -- these sections fill the bytes from a place up to an end, each with its envelope
-abbrev pub Tile : (place : ℕ) (all : List Section) (end : ℕ) → Type 0
-Tile place [] end = place ≡ end
-Tile place (section ∷ rest) end = (section .place ≡ place) × (place + envelope ≤ section .end) × Tile (section .end) rest end
+abbrev pub SectionsFill : (place : ℕ) (all : List Section) (end : ℕ) → Type 0
+SectionsFill place [] end = place ≡ end
+SectionsFill place (section ∷ rest) end = (section .place ≡ place) × (place + envelope ≤ section .end) × SectionsFill (section .end) rest end
 
 -- for every file whose sections are all good
-abbrev pub EveryFileTiled : Type 0
-EveryFileTiled = (file : Bytes) (all : List Section) → sections file ≡ given all → Tile (len-header file) all (length file)
+abbrev pub EveryFileFilled : Type 0
+EveryFileFilled = (file : Bytes) (all : List Section) → sections file ≡ given all → SectionsFill (len-header file) all (length file)
