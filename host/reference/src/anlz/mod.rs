@@ -11,7 +11,7 @@
 //! let codes: Vec<[u8; 4]> = sections(&file)?.iter().map(|section| section.code).collect();
 //! assert_eq!(codes, [*b"PPTH", *b"PVBR", *b"PQTZ", *b"PCOB", *b"PCOB"]);
 //! assert_eq!(beats(&file)?, 319);
-//! assert_eq!(beat(&file, 0)?, Beat { bar: 1, tempo: 9950, time: 120 });
+//! assert_eq!(beat(&file, 0)?, Beat { bar_position: 1, tempo: 9950, time: 120 });
 //! # Ok::<(), sarvoltig_reference::model::Refusal>(())
 //! ```
 
