@@ -9,8 +9,7 @@ use Rattle.number.specs.Number.{be32}
 use Rattle.anlz.specs.declared.Section.{Section}
 use Rattle.anlz.specs.Header.{envelope}
 
--- the fields of the section that starts at a place
--- its code
+-- the fields of the section that starts at a place: its code and two lengths
 abbrev pub fourcc : (file : Bytes) (place : ℕ) → ℕ
 fourcc file place = be32 file place
 
