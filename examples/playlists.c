@@ -1,5 +1,6 @@
 /*
- * Prints the playlists of a rekordbox export as a tree, with the titles of their tracks.
+ * Prints the playlists of a rekordbox export as a tree, with the titles of their tracks and, in brackets, their recording
+ * codes where they have one.
  *
  *     playlists EXPORT
  *
@@ -392,18 +393,25 @@ static void print_utf16(const uint8_t *text, size_t length)
     }
 }
 
-/* Prints a string of row i of a table. */
-static void print_text(const Intake *intake, const Rows *rows, size_t i, uint64_t slot)
+/* A string of row i of a table: place, length and encoding of its text. */
+static void read_text(const Intake *intake, const Rows *rows, size_t i, uint64_t slot, uint64_t *result)
 {
-    uint64_t result[SARVOLTIG_RESULT];
     uint32_t code = sarvoltig_text_in(intake->len, intake->image, (size_t)intake->len, intake->map, intake->map_len,
                                       rows->table, rows->list, rows->count, i, slot, result, SARVOLTIG_RESULT);
-    const uint8_t *text;
-    size_t length;
 
     if (code != SARVOLTIG_DONE) {
         refuse(rows->name, code, result);
     }
+}
+
+/* Prints a string of row i of a table. */
+static void print_text(const Intake *intake, const Rows *rows, size_t i, uint64_t slot)
+{
+    uint64_t result[SARVOLTIG_RESULT];
+    const uint8_t *text;
+    size_t length;
+
+    read_text(intake, rows, i, slot, result);
     text = intake->image + result[SARVOLTIG_TEXT_PLACE];
     length = (size_t)result[SARVOLTIG_TEXT_LENGTH];
     if (result[SARVOLTIG_TEXT_ENCODING] == SARVOLTIG_UTF16LE) {
@@ -413,7 +421,21 @@ static void print_text(const Intake *intake, const Rows *rows, size_t i, uint64_
     }
 }
 
-/* Prints the titles of a playlist's tracks, by their entries' indexes. */
+/* Prints the title of track i, and its recording code where it has one. */
+static void print_track(const Intake *intake, const Rows *rows, size_t i)
+{
+    uint64_t result[SARVOLTIG_RESULT];
+
+    print_text(intake, rows, i, SARVOLTIG_SLOT_TITLE);
+    read_text(intake, rows, i, SARVOLTIG_SLOT_ISRC, result);
+    if (result[SARVOLTIG_TEXT_LENGTH] > 0 && result[SARVOLTIG_TEXT_ENCODING] == SARVOLTIG_ASCII) {
+        fputs(" [", stdout);
+        print_text(intake, rows, i, SARVOLTIG_SLOT_ISRC);
+        putchar(']');
+    }
+}
+
+/* Prints a playlist's tracks, by their entries' indexes. */
 static void print_tracks(const Intake *intake, const Library *library, uint64_t playlist, int level)
 {
     size_t i;
@@ -433,7 +455,7 @@ static void print_tracks(const Intake *intake, const Library *library, uint64_t 
         if (track == NULL) {
             printf("(no track %" PRIu64 ")", entry->track);
         } else {
-            print_text(intake, &library->track_rows, track->i, SARVOLTIG_SLOT_TITLE);
+            print_track(intake, &library->track_rows, track->i);
         }
         putchar('\n');
     }

@@ -71,7 +71,7 @@ enum {
     SARVOLTIG_PAGE_HEADER = 12,   /* a page's header names another page or table: the page */
     SARVOLTIG_ROW_INDEX = 13,     /* a row index does not fit: the page */
     SARVOLTIG_ROW_SHORT = 14,     /* a row does not fit, or an artist row is of no known subtype: the page */
-    SARVOLTIG_TEXT_FAULT = 15,    /* a string is malformed or outside: the page */
+    SARVOLTIG_TEXT_FAULT = 15,    /* a string is malformed or outside, or a recording code has no zero byte: the page */
     SARVOLTIG_CHAIN_LOOP = 16,    /* a table's pages come back to one before the last */
     SARVOLTIG_LIST_SHORT = 17,    /* the list is shorter than the rows found: the rows found */
     SARVOLTIG_NO_ROW = 18,        /* the table has no such record, the list no such row, or the grid no such beat */
@@ -163,7 +163,7 @@ enum {
 
 /* String slots of a track. */
 enum {
-    SARVOLTIG_SLOT_ISRC = 0,
+    SARVOLTIG_SLOT_ISRC = 0, /* the recording code, see sarvoltig_text */
     SARVOLTIG_SLOT_TEXTER = 1,
     SARVOLTIG_SLOT_MESSAGE = 5,
     SARVOLTIG_SLOT_KUVO_PUBLIC = 6,
@@ -241,6 +241,13 @@ uint32_t sarvoltig_record(uint64_t len,
  *     0           the text's place in the image, its length in bytes and its encoding. The text is not decoded
  *     65          not found so far: rows, pages and page, as above
  *     1 to 4, 8 to 16, 18, 19      refused
+ *
+ * Slot 0 of a track, SARVOLTIG_SLOT_ISRC, and no other slot or table, may hold a recording code: a string of kind 90 with a
+ * total length of 5 or more and the byte 03 behind its four head bytes. Its text is what stands between the 03 and the first
+ * zero byte behind it, with the encoding SARVOLTIG_ASCII. The total length may be odd, and bytes behind the zero byte belong
+ * to the string and not to the text. Without a zero byte inside the total length it is refused with 15. As in every text of
+ * that encoding, bytes are not tested for ASCII: some may be above 7f. A string that slot 0 shares with another slot is
+ * read in both ways, and is refused with 15 unless it is right in both.
  */
 uint32_t sarvoltig_text(uint64_t len,
                         const uint8_t *image, size_t image_len,
@@ -272,7 +279,7 @@ uint32_t sarvoltig_record_in(uint64_t len,
 /*
  * Reads a string slot of a row from a list, as sarvoltig_record_in reads its record.
  *
- *     0           place, length and encoding, as sarvoltig_text gives them
+ *     0           place, length and encoding, as sarvoltig_text gives them, also of a recording code
  *     65          0 rows, 0 pages and the page, as above
  *     1 to 4, 8, 9, 12 to 15, 18, 19   refused, as above; 19 for a slot that the table has not
  */

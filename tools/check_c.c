@@ -1,6 +1,7 @@
 /*
- * Runs case D (rule 9.11) and a small ANLZ file through the C interface. Every slice that is written has guard elements
- * behind it: each call has to give the code and the values of the rules, and to leave everything else as it was.
+ * Runs case D (rule 9.11), a track with a recording code and a small ANLZ file through the C interface. Every slice that is
+ * written has guard elements behind it: each call has to give the code and the values of the rules, and to leave everything
+ * else as it was.
  */
 #include <inttypes.h>
 #include <stdint.h>
@@ -10,6 +11,9 @@
 #include "sarvoltig.h"
 
 enum { LEN = 1536, ROWS = 4, GUARD = 4 };
+
+/* The track of an export of one track: where its row starts, the offset of a string in it, and the string's place. */
+enum { TRACK = 512 + 0x28, STRING = 0x88, STRING_PLACE = TRACK + STRING };
 
 /* An ANLZ file and the places of its sections: one of an unknown code, the grid, and one behind it; the grid's beats. */
 enum { ANLZ_LEN = 0x70, UNKNOWN = 0x1c, GRID = 0x28, BEATS = 0x40, BEHIND = 0x58 };
@@ -254,6 +258,98 @@ static void run_list_waits(void)
     expect(map[0] == 5 && list[0] == 1080, "reading from a list leaves map and list, also when it waits");
 }
 
+/* A string of a track, and what slot 0 and slot 1 answer for it: a refusal, or the text's offset, length and encoding. */
+typedef struct {
+    uint32_t code;
+    uint64_t offset;
+    uint64_t length;
+    uint64_t encoding;
+} Text;
+
+static const struct {
+    const char *what;
+    const char *string; /* zero bytes follow */
+    size_t string_len;
+    Text slot[2];
+} strings[] = {
+    {"a code of odd total length", "\x90\x09\0\0\x03" "AB1", 8, {{0, 5, 3, SARVOLTIG_ASCII}, {15, 0, 0, 0}}},
+    {"a code of even total length", "\x90\x0a\0\0\x03" "AB12", 9, {{0, 5, 4, SARVOLTIG_ASCII}, {0, 4, 6, SARVOLTIG_UTF16LE}}},
+    {"a code of no length", "\x90\x06\0\0\x03", 5, {{0, 5, 0, SARVOLTIG_ASCII}, {0, 4, 2, SARVOLTIG_UTF16LE}}},
+    {"a code with bytes behind its zero byte", "\x90\x09\0\0\x03" "A\0B1", 9, {{0, 5, 1, SARVOLTIG_ASCII}, {15, 0, 0, 0}}},
+    {"a code with bytes above 7f", "\x90\x09\0\0\x03\x80\x1b\xff", 8, {{0, 5, 3, SARVOLTIG_ASCII}, {15, 0, 0, 0}}},
+    {"a code without a zero byte, odd", "\x90\x09\0\0\x03" "AB12", 9, {{15, 0, 0, 0}, {15, 0, 0, 0}}},
+    {"a code without a zero byte, even", "\x90\x08\0\0\x03" "AB1", 8, {{15, 0, 0, 0}, {0, 4, 4, SARVOLTIG_UTF16LE}}},
+    {"the mark of a code alone", "\x90\x05\0\0\x03", 5, {{15, 0, 0, 0}, {15, 0, 0, 0}}},
+    {"an empty text before a 03", "\x90\x04\0\0\x03" "A", 6, {{0, 4, 0, SARVOLTIG_UTF16LE}, {0, 4, 0, SARVOLTIG_UTF16LE}}},
+    {"another first byte", "\x90\x08\0\x03" "A\0\x03", 7, {{0, 4, 4, SARVOLTIG_UTF16LE}, {0, 4, 4, SARVOLTIG_UTF16LE}}},
+};
+
+/* An export of one track on page 1. Slots from first to last name string i, the others an empty one in the row's first byte. */
+static void make_track(size_t i, size_t first, size_t last)
+{
+    memset(file, 0, sizeof file);
+    put32(0x04, 512);
+    put32(0x08, 1);
+    put32(0x1c, SARVOLTIG_TRACKS);
+    put32(0x24, 1);
+    put32(0x28, 1);
+    put32(512 + 0x04, 1);
+    put32(512 + 0x08, SARVOLTIG_TRACKS);
+    file[512 + 0x18] = 1;
+    file[1024 - 4] = 1;
+    file[TRACK] = 0x03;
+    for (; first <= last; first++) {
+        file[TRACK + 0x5e + 2 * first] = STRING;
+    }
+    memcpy(&file[STRING_PLACE], strings[i].string, strings[i].string_len);
+}
+
+static void take_in_track(void)
+{
+    uint64_t block;
+
+    answers("opening", sarvoltig_open(LEN, image, LEN, map, 1, clear(), SARVOLTIG_RESULT), SARVOLTIG_DONE, 1, 3, 0, 0);
+    for (block = 0; block < 3; block++) {
+        answers("a block", deliver(block, file + 512 * block, 512), SARVOLTIG_DONE, 1, block + 1, 0, 0);
+    }
+    list[0] = TRACK;
+}
+
+/* What a slot answers, by the question and from the list; a refusal carries page 1. */
+static void answers_text(const char *what, uint64_t slot, Text expected)
+{
+    int found = expected.code == SARVOLTIG_DONE;
+    uint64_t first = found ? STRING_PLACE + expected.offset : 1;
+    size_t count = found ? 3 : 1;
+
+    answers(what, text(SARVOLTIG_TRACKS, 0, slot), expected.code, count, first, expected.length, expected.encoding);
+    answers(what, text_in(SARVOLTIG_TRACKS, 1, 0, slot), expected.code, count, first, expected.length, expected.encoding);
+}
+
+/* Each string in slot 0 alone, in slot 1 alone, and in both, where it has to be right in both. */
+static void run_codes(void)
+{
+    size_t i;
+
+    for (i = 0; i < sizeof strings / sizeof strings[0]; i++) {
+        const Text *slot = strings[i].slot;
+        const Text *fault = slot[0].code != SARVOLTIG_DONE ? &slot[0] : &slot[1];
+        int shared = fault->code == SARVOLTIG_DONE;
+
+        make_track(i, SARVOLTIG_SLOT_ISRC, SARVOLTIG_SLOT_ISRC);
+        take_in_track();
+        answers_text(strings[i].what, SARVOLTIG_SLOT_ISRC, slot[0]);
+        make_track(i, SARVOLTIG_SLOT_TEXTER, SARVOLTIG_SLOT_TEXTER);
+        take_in_track();
+        answers_text(strings[i].what, SARVOLTIG_SLOT_TEXTER, slot[1]);
+        make_track(i, SARVOLTIG_SLOT_ISRC, SARVOLTIG_SLOT_FILE_PATH);
+        take_in_track();
+        answers_text(strings[i].what, SARVOLTIG_SLOT_ISRC, shared ? slot[0] : *fault);
+        answers_text(strings[i].what, SARVOLTIG_SLOT_FILE_PATH, shared ? slot[1] : *fault);
+    }
+    expect(map[0] == 7 && memcmp(image, file, LEN) == 0, "questions about a code leave image and map");
+}
+
 static void put_envelope(size_t at, const char *code, uint8_t len_header, uint8_t len)
 {
     memcpy(&anlz[at], code, 4);
@@ -401,6 +497,7 @@ int main(void)
     run_list_results();
     run_wrong_lists();
     run_list_waits();
+    run_codes();
     run_beats();
     run_short_anlz();
     run_damages();

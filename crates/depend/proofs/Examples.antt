@@ -5,11 +5,14 @@ use Rattle.lists.specs.Any.{anyFrom}
 use Rattle.lists.specs.Member.{isMember}
 use Rattle.number.specs.Agree.{within}
 use Rattle.format.specs.Place.{linkable}
-use Rattle.text.specs.Text.{headSize, wholeSize, textBehind, readText}
-use Rattle.text.specs.Bytes.{textByte}
-use Rattle.table.specs.Table.{tableOf}
+use Rattle.table.specs.Table.{tableOf, holdsCodes}
+use Rattle.text.specs.Zero.{firstZero}
+use Rattle.text.specs.Code.{isCode, codeLength}
+use Rattle.text.specs.Text.{headSize, wholeSize, isInside, plainText, textIn, readText}
+use Rattle.text.specs.Bytes.{codeByte, textByte}
 use Rattle.row.specs.Layout.{artistLayout}
 use Rattle.row.specs.Check.{checkTexts, checkRow}
+use Rattle.row.specs.Slot.{slotText}
 use Rattle.row.specs.Bytes.{slotByte, subtypeByte, rowByte}
 use Rattle.page.specs.Header.{headerAgrees, rowless, entries}
 use Rattle.page.specs.Index.{indexSize, flagsAt, offsetAt, present, rowStart, presentFrom}
@@ -28,17 +31,22 @@ use Rattle.directory.specs.Chain.{pointerAmong, chainIn, tableChain}
 use Rattle.directory.specs.Bytes.{directoryByte}
 use Rattle.chain.specs.Held.{blockMissing, pageHeld}
 use Rattle.chain.specs.File.{pagePart, pageNext}
+use Rattle.chain.specs.Walk.{walk, walkFrom}
 use Rattle.chain.specs.Reads.{comesTo, goesOn, reads, readsFrom}
 use Rattle.listed.specs.Rank.{runBefore, rank}
 use Rattle.table_walk.specs.Asked.{askedTable}
+use Rattle.table_walk.specs.Walk.{tableWalk}
 use Rattle.table_walk.specs.Reads.{tableReads}
+use Rattle.export.specs.Row.{rowPart}
+use Rattle.export.specs.Text.{askText}
 use Rattle.depend.specs.Bytes.{walkedByte, firstBlockByte, tableByte, relevant}
 use Rattle.depend.specs.Unread.{inPresentRow, inAbsentRow, absentRow, unreadByte, unreadFor}
 use Rattle.depend.specs.ListBytes.{elementReads, elementByte, listByte}
-use Rattle.depend.specs.Examples.{examples, ExamplesHold}
+use Rattle.depend.specs.Examples.{examples, ExamplesHold, CodeAnswers}
 
 pub examples-hold : ExamplesHold examples
-unfolding le16 le32 anyFrom isMember within linkable headSize wholeSize textBehind readText textByte tableOf artistLayout checkTexts checkRow
+unfolding le16 le32 anyFrom isMember within linkable headSize wholeSize isInside holdsCodes isCode firstZero codeLength
+    plainText textIn readText codeByte textByte tableOf artistLayout checkTexts checkRow
     slotByte subtypeByte rowByte headerAgrees rowless entries indexSize flagsAt offsetAt present rowStart presentFrom
     indexFits beforeIndex rowStarts checkRows readPage headerByte rowByteAt indexByte entryByte entriesByte pageByte
     allowedLength spareBit bit checkLengths checkCall blockAt allowedPage allowedTables hasType typeTwice tablesHold headerHolds
@@ -47,3 +55,11 @@ unfolding le16 le32 anyFrom isMember within linkable headSize wholeSize textBehi
     inPresentRow inAbsentRow absentRow unreadByte unreadFor
     pageRow isRow oneRowByte runBefore rank elementReads elementByte listByte
 examples-hold = refl
+
+pub code-answers : CodeAnswers
+unfolding le16 le32 anyFrom isMember linkable headSize wholeSize isInside holdsCodes isCode firstZero codeLength
+    plainText textIn readText tableOf checkTexts checkRow slotText
+    headerAgrees rowless entries indexSize flagsAt offsetAt present rowStart presentFrom indexFits beforeIndex rowStarts checkRows readPage
+    allowedLength spareBit bit checkLengths checkCall blockAt allowedPage allowedTables hasType typeTwice tablesHold headerHolds
+    pointersFrom kept pointerAmong chainIn tableChain blockMissing pageHeld pagePart pageNext walk walkFrom askedTable tableWalk rowPart askText
+code-answers = record { behind = refl; last = refl; zeroByte = refl; mark = refl }

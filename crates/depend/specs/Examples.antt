@@ -1,12 +1,18 @@
--- Rules 7.2 to 7.8, 7.10, 7.12 and 7.14 by example: a file of four pages, of which page 3 is off the chain, and three that differ a little.
+-- Rules 7.2 to 7.8, 7.10, 7.12, 7.14 and 7.15 by example: a file of four pages, of which page 3 is off the chain, three that differ a little,
+-- and one of a track with a recording code.
 -- An example holds when the definitions say of a byte what is said here.
 use mathlib.Core.Path.{_≡_}
 use mathlib.Core.Bool.{Bool, true, false}
 use mathlib.Core.List.{List, [], _∷_, map}
-use Prim.Native.Nat.{ℕ, _+_}
+use Prim.Native.Nat.{ℕ, zero, suc, _+_}
 use lib.ListN.{set, replicate}
 use Rattle.lists.specs.Alias.{Bytes, Places}
+use Rattle.refusal.specs.Fault.{fault}
+use Rattle.refusal.specs.Answer.{Answer, given, refused}
+use Rattle.text.specs.declared.Encoding.the-variants.{Ascii, Utf16}
 use Rattle.intake.specs.Memory.{memory}
+use Rattle.chain.specs.Found.{Found, found}
+use Rattle.export.specs.Text.{TextPlace, textPlace, askText}
 use Rattle.run.specs.Call.{Question, allRows, oneText}
 use Rattle.depend.specs.Bytes.{relevant}
 use Rattle.depend.specs.Unread.{unreadFor}
@@ -45,6 +51,26 @@ unfit = put genres 1528 (0xcd ∷ 0x01 ∷ [])
 -- the same pages as table 2: the present row has subtype 7, which there is not
 abbrev pub artists : Bytes
 artists = put (put (put genres 0x1c (2 ∷ [])) 520 (2 ∷ [])) 1032 (2 ∷ [])
+
+-- so many offsets of an empty string, which is the byte `03` of the code below
+abbrev pub empties : ℕ → Bytes
+empties zero = []
+empties (suc n) = 0x8c ∷ 0 ∷ empties n
+
+-- table 0 has page 1 alone, with one track at 552; its slot 0 names a recording code of ten bytes at 688, of which two stand behind the zero byte
+abbrev pub tracks : Bytes
+tracks =
+    put (put (put (put (put (put (put (put (header (replicate 2048 0)) 0x1c (0 ∷ [])) 0x28 (1 ∷ []))
+    516 (1 ∷ [])) 536 (1 ∷ 0 ∷ 0 ∷ 0x24 ∷ [])) 646 (0x88 ∷ 0 ∷ [])) 648 (empties 20))
+    688 (0x90 ∷ 0x0a ∷ 0 ∷ 0 ∷ 0x03 ∷ 71 ∷ 66 ∷ 0 ∷ 85 ∷ 83 ∷ [])) 1020 (1 ∷ [])
+
+-- the code ends past the index
+abbrev pub pastIndex : Bytes
+pastIndex = put tracks 690 (0x02 ∷ [])
+
+-- slot 0 of the track
+abbrev pub code : Question
+code = oneText 0 0 0
 
 pub record Example : Type 0 where
   pub found : Bool
@@ -126,7 +152,21 @@ examples =
     yesAt (1064 ∷ []) 1532 ∷ noAt (1064 ∷ []) 1064 ∷ noAt (1064 ∷ []) 1080 ∷ noAt (40 ∷ []) 516 ∷ yesAt [] 0x1c ∷ noAt [] 1028 ∷
     -- of two present rows the one that is named is relevant and the other is not, but both their offsets are
     yesSecond 1080 ∷ yesSecond 1088 ∷ noSecond 1064 ∷ noSecond 1068 ∷ yesSecond 1528 ∷ yesSecond 1530 ∷
+    -- a recording code: head, text, zero byte and the bytes behind it, and not the byte behind the string; of one that ends past the index the head
+    yesIn tracks code 688 ∷ yesIn tracks code 694 ∷ yesIn tracks code 695 ∷ yesIn tracks code 697 ∷ noIn tracks code 698 ∷
+    yesIn pastIndex code 691 ∷ noIn pastIndex code 693 ∷
     []
 
 abbrev pub ExamplesHold : List Example → Type 0
 ExamplesHold list = map (λ (e : Example). e .found) list ≡ map (λ (e : Example). e .said) list
+
+-- what slot 0 of the track answers, where byte i has another value
+abbrev pub codeWith : (i byte : ℕ) → Answer (Found TextPlace)
+codeWith i byte = askText 2048 (memory (put tracks i (byte ∷ [])) (all ∷ [])) 0 0 0
+
+-- Rule 7.8: a byte behind a code's zero byte changes no answer; the zero byte does, and a byte `03` that is another one
+pub record CodeAnswers : Type 0 where
+  pub behind : codeWith 696 0 ≡ given (found (textPlace 693 2 Ascii))
+  pub last : codeWith 697 255 ≡ given (found (textPlace 693 2 Ascii))
+  pub zeroByte : codeWith 695 1 ≡ refused (fault 15 1)
+  pub mark : codeWith 692 5 ≡ given (found (textPlace 692 6 Utf16))

@@ -1,7 +1,9 @@
 -- Rule 9.1: C1 to C12 hold together, by computation of the definitions that the contracts cite.
 use mathlib.Core.Path.{refl}
 use Rattle.number.specs.Number.{le16, le32}
-use Rattle.text.specs.Text.{headSize, wholeSize, textBehind, readText}
+use Rattle.table.specs.Table.{holdsCodes}
+use Rattle.text.specs.Code.{isCode}
+use Rattle.text.specs.Text.{headSize, wholeSize, isInside, plainText, textIn, readText}
 use Rattle.row.specs.Check.{checkTexts, checkRow}
 use Rattle.row.specs.Slot.{slotText}
 use Rattle.page.specs.Header.{headerAgrees, rowless, entries}
@@ -13,7 +15,7 @@ use Rattle.intake.specs.Open.{opening}
 use Rattle.edges.specs.Cases.{cases, AllHold}
 
 pub edges : AllHold cases
-unfolding le16 le32 headSize wholeSize textBehind readText checkTexts checkRow slotText
+unfolding le16 le32 holdsCodes headSize wholeSize isInside isCode plainText textIn readText checkTexts checkRow slotText
     headerAgrees rowless entries indexSize indexFits readPage allowedLength checkLengths opening
 edges =
     (refl, (refl, (refl, (refl, (refl, (refl, (refl, (refl, (refl, (refl, (refl, (refl, (refl, (refl, (refl, (refl, (refl, (refl, (refl, tt)))))))))))))))))))

@@ -1,2 +1,4 @@
 -- Edges: C1 to C12 hold together, by computation (rule 9.1).
+-- Codes: strings near the edge between recording codes and others (rule 9.14), and C9 to C12 in every slot (rule 9.15).
 pub mod Edges
+pub mod Codes

@@ -8,6 +8,9 @@ use lib.ListN.{length, set, replicate, take, drop}
 use Rattle.lists.specs.Alias.{Bytes}
 use Rattle.refusal.specs.Answer.{Answer, given, refused, andThen}
 use Rattle.table.specs.declared.Table.the-variants.{Genres}
+use Rattle.text.specs.declared.Encoding.{Encoding}
+use Rattle.text.specs.declared.Encoding.the-variants.{Ascii, Utf16}
+use Rattle.text.specs.Text.{TextAt}
 use Rattle.row.specs.Check.{checkRow}
 use Rattle.row.specs.Slot.{slotText}
 use Rattle.page.specs.Header.{entryCount}
@@ -23,6 +26,7 @@ pub data Outcome : Type 0 where
   entries : ℕ → Outcome
   fits : Bool → Outcome
   text : Bytes → Outcome
+  utf16 : Bytes → Outcome
   rows : ℕ → Outcome
 
 pub record Case : Type 0 where
@@ -52,11 +56,19 @@ genrePage small = set (set (set (replicate 512 0) 0x04 1) 0x08 1) 0x18 small
 abbrev pub pageReads : (small : ℕ) → Outcome
 pageReads small = outcome (λ places. rows (length places)) (readPage 1 Genres (genrePage small))
 
+-- a text's bytes, by its encoding
+abbrev pub encoded : Encoding → Bytes → Outcome
+encoded Ascii string = text string
+encoded Utf16 string = utf16 string
+
+abbrev pub textIn : (part : Bytes) (found : TextAt) → Outcome
+textIn part found = encoded (found .encoding) (take (found .len) (drop (found .place) part))
+
 -- the text of a genre's name, in a row of an id and then the string
 abbrev pub names : (string : Bytes) → Outcome
 names string =
     let row : Bytes = 7 ∷ 0 ∷ 0 ∷ 0 ∷ string in
-    outcome (λ found. text (take (found .len) (drop (found .place) row))) (andThen (checkRow Genres row) (λ _. slotText Genres row 0))
+    outcome (textIn row) (andThen (checkRow Genres row) (λ _. slotText Genres row 0))
 
 abbrev pub cases : List Case
 cases =

@@ -5,6 +5,6 @@
 pub mod LayoutSound
 pub mod TextsLoop
 pub mod GoodRow
-pub mod RowFaults
 pub mod SlotInside
+pub mod RowFaults
 pub mod RowAgree

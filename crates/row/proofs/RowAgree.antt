@@ -27,7 +27,7 @@ use Rattle.row.specs.declared.Layout.the-variants.{Known, Unknown}
 use Rattle.row.specs.Layout.{artistLayout, rowLayout, slotsIn, slotStart}
 use Rattle.row.specs.Check.{checkTexts, checkLayout, checkRow}
 use Rattle.row.specs.Record.{rowRecord, readRecord}
-use Rattle.row.specs.Slot.{layoutText, slotText}
+use Rattle.row.specs.Slot.{textInSlot, layoutText, slotText}
 use Rattle.row.specs.Bytes.{slotByte, layoutByte, subtypeByte, rowByte}
 use Rattle.row.proofs.LayoutSound.{OffsetsIn, numbersPart, SoundLayout, layout-sound}
 use Rattle.row.proofs.GoodRow.{good-fits}
@@ -57,7 +57,7 @@ layout-agree PlaylistTree a = refl
 layout-agree PlaylistEntries a = refl
 layout-agree Artwork a = refl
 
-layout-bytes : (table : Table) {s t : Bytes} → Agree (rowByte table s) s t → Agree (layoutByte s (rowLayout table s)) s t
+layout-bytes : (table : Table) {s t : Bytes} → Agree (rowByte table s) s t → Agree (layoutByte table s (rowLayout table s)) s t
 unfolding rowByte
 layout-bytes table {s} a = agree-less (λ i e. or-right (subtypeByte table s i) e) a
 
@@ -76,18 +76,18 @@ module _ {fixed : ℕ} {s t : Bytes} (a : Agree (within 0 fixed) s t) where
   n32 at h = le32-agree at (part at 4 h)
 
 -- a layout whose fixed part fits: the fixed part, and each string
-module _ {s t : Bytes} (fixed : ℕ) (slots : Slots) (fits : fixed ≤ length s) (a : Agree (layoutByte s (Known fixed slots)) s t) where
-  fitting : Agree (λ (i : ℕ). within 0 fixed i || slotByte s slots i) s t
+module _ (table : Table) {s t : Bytes} (fixed : ℕ) (slots : Slots) (fits : fixed ≤ length s) (a : Agree (layoutByte table s (Known fixed slots)) s t) where
+  fitting : Agree (λ (i : ℕ). within 0 fixed i || slotByte table s slots i) s t
   fitting = agree-less (λ i e. rw (le-ltb (length s) fixed fits) e) a
 
   fixed-agree : Agree (within 0 fixed) s t
   fixed-agree = agree-less (λ i e. or-left _ e) fitting
 
-  string-agree : (slot : ℕ) → slot < slotsIn slots → Agree (textByte s (slotStart slots s slot)) s t
+  string-agree : (slot : ℕ) → slot < slotsIn slots → Agree (textByte table slot s (slotStart slots s slot)) s t
   unfolding slotByte
   string-agree slot h =
       agree-less
-      (λ i e. or-right (within 0 fixed i) (any-at (λ (j : ℕ). textByte s (slotStart slots s j) i) (slotsIn slots) 0 slot (omega arith) (omega arith) e))
+      (λ i e. or-right (within 0 fixed i) (any-at (λ (j : ℕ). textByte table j s (slotStart slots s j) i) (slotsIn slots) 0 slot (omega arith) (omega arith) e))
       fitting
 
 start-agree : {s t : Bytes} (fixed : ℕ) (slots : Slots) → Agree (within 0 fixed) s t → OffsetsIn fixed slots
@@ -97,51 +97,53 @@ start-agree fixed (Inline at) a inside slot h = refl
 start-agree fixed (ByteOffset at) a inside slot h = n8 a at (omega arith)
 start-agree fixed (WordOffsets count at) a inside slot h = n16 a (at + 2 * slot) (omega arith)
 
-module _ {s t : Bytes} (fixed : ℕ) (slots : Slots) (fits : fixed ≤ length s) (a : Agree (layoutByte s (Known fixed slots)) s t)
+module _ (table : Table) {s t : Bytes} (fixed : ℕ) (slots : Slots) (fits : fixed ≤ length s) (a : Agree (layoutByte table s (Known fixed slots)) s t)
     (inside : OffsetsIn fixed slots) where
-  slot-same : (slot : ℕ) → slot < slotsIn slots → readText s (slotStart slots s slot) ≡ readText t (slotStart slots t slot)
-  slot-same slot h =
-      text-agree (slotStart slots s slot) (string-agree fixed slots fits a slot h)
-      ∙ ap (readText t) (start-agree fixed slots (fixed-agree fixed slots fits a) inside slot h)
+  slot-same : (slot : ℕ) → textInSlot table s slots slot ≡ textInSlot table t slots slot
+  slot-same slot = cond-agree (leb (slotsIn slots) slot) (λ _. refl) (λ e. held slot (leb-false (slotsIn slots) slot e))
+    where
+      held : (slot : ℕ) → slot < slotsIn slots → readText table slot s (slotStart slots s slot) ≡ readText table slot t (slotStart slots t slot)
+      held slot h =
+          text-agree table slot (slotStart slots s slot) (string-agree table fixed slots fits a slot h)
+          ∙ ap (readText table slot t) (start-agree fixed slots (fixed-agree table fixed slots fits a) inside slot h)
 
-  texts-same : (left slot : ℕ) → slot + left ≤ slotsIn slots → checkTexts s slots left slot ≡ checkTexts t slots left slot
+  texts-same : (left slot : ℕ) → checkTexts table s slots left slot ≡ checkTexts table t slots left slot
   unfolding checkTexts
-  texts-same zero slot h = refl
-  texts-same (suc left) slot h = rw (slot-same slot (omega arith), texts-same left (slot + 1) (omega arith))
+  texts-same zero slot = refl
+  texts-same (suc left) slot = rw (slot-same slot, texts-same left (slot + 1))
 
-check-layout : {s t : Bytes} (table : Table) (l : Layout) → SoundLayout table l → Agree (layoutByte s l) s t → checkLayout s l ≡ checkLayout t l
+check-layout : {s t : Bytes} (table : Table) (l : Layout) → SoundLayout table l → Agree (layoutByte table s l) s t → checkLayout table s l ≡ checkLayout table t l
 check-layout {s} table (Known fixed slots) sound a =
     rw (← a .long)
     (cond-agree (ltb (length s) fixed) (λ _. refl)
-    (λ e. texts-same fixed slots (ltb-false (length s) fixed e) a (sound .offsets) (slotsIn slots) 0 (omega arith)))
+    (λ e. texts-same table fixed slots (ltb-false (length s) fixed e) a (sound .offsets) (slotsIn slots) 0))
 check-layout table Unknown sound a = refl
 
 pub check-agree : (table : Table) {s t : Bytes} → Agree (rowByte table s) s t → checkRow table s ≡ checkRow table t
 unfolding checkRow
 check-agree table {s} {t} a =
-    check-layout table (rowLayout table s) (layout-sound table s) (layout-bytes table a) ∙ ap (checkLayout t) (layout-agree table a)
+    check-layout table (rowLayout table s) (layout-sound table s) (layout-bytes table a) ∙ ap (checkLayout table t) (layout-agree table a)
 
-text-layout : {s t : Bytes} (table : Table) (slot : ℕ) (l : Layout) → SoundLayout table l → checkLayout s l ≡ given tt → Agree (layoutByte s l) s t
-    → layoutText s slot l ≡ layoutText t slot l
+text-layout : {s t : Bytes} (table : Table) (slot : ℕ) (l : Layout) → SoundLayout table l → checkLayout table s l ≡ given tt → Agree (layoutByte table s l) s t
+    → layoutText table s slot l ≡ layoutText table t slot l
 text-layout {s} table slot (Known fixed slots) sound good a =
-    cond-agree (leb (slotsIn slots) slot) (λ _. refl)
-    (λ e. slot-same fixed slots (good-fits s fixed slots good) a (sound .offsets) slot (leb-false (slotsIn slots) slot e))
+    slot-same table fixed slots (good-fits table s fixed slots good) a (sound .offsets) slot
 text-layout table slot Unknown sound good a = refl
 
 pub slot-agree : (table : Table) {s t : Bytes} → checkRow table s ≡ given tt → Agree (rowByte table s) s t
     → (slot : ℕ) → slotText table s slot ≡ slotText table t slot
 unfolding slotText checkRow
 slot-agree table {s} {t} good a slot =
-    text-layout table slot (rowLayout table s) (layout-sound table s) good (layout-bytes table a) ∙ ap (layoutText t slot) (layout-agree table a)
+    text-layout table slot (rowLayout table s) (layout-sound table s) good (layout-bytes table a) ∙ ap (layoutText table t slot) (layout-agree table a)
 
 numbers-agree : (table : Table) {s t : Bytes} → checkRow table s ≡ given tt → Agree (rowByte table s) s t → Agree (within 0 (numbersPart table)) s t
 unfolding checkRow
 numbers-agree table {s} {t} good a = go (rowLayout table s) (layout-sound table s) good (layout-bytes table a)
   where
-    go : (l : Layout) → SoundLayout table l → checkLayout s l ≡ given tt → Agree (layoutByte s l) s t → Agree (within 0 (numbersPart table)) s t
+    go : (l : Layout) → SoundLayout table l → checkLayout table s l ≡ given tt → Agree (layoutByte table s l) s t → Agree (within 0 (numbersPart table)) s t
     go (Known fixed slots) sound g b =
         agree-less (λ i e. within-less 0 (numbersPart table) 0 fixed i (omega arith) (omega (arith, sound .numbers)) e)
-        (fixed-agree fixed slots (good-fits s fixed slots g) b)
+        (fixed-agree table fixed slots (good-fits table s fixed slots g) b)
     go Unknown sound g b = never (cc)
 
 pub record-agree : (table : Table) {s t : Bytes} → checkRow table s ≡ given tt → Agree (rowByte table s) s t → readRecord table s ≡ readRecord table t

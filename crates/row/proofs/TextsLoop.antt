@@ -10,32 +10,33 @@ use Rattle.refusal.specs.Answer.{given, refused, andThen}
 use Rattle.text.specs.declared.Encoding.{Encoding}
 use Rattle.text.specs.declared.Text.{Text}
 use Rattle.text.specs.declared.Text.the-variants.{At, Malformed}
-use Rattle.text.specs.Text.{readText, textOf}
+use Rattle.text.specs.Text.{textOf}
+use Rattle.table.specs.declared.Table.{Table}
 use Rattle.row.specs.declared.Slots.{Slots}
-use Rattle.row.specs.Layout.{slotStart}
+use Rattle.row.specs.Slot.{textInSlot}
 use Rattle.row.specs.Check.{checkTexts}
 
-pub record Checked (row : Bytes) (slots : Slots) (n slot : ℕ) : Type 0 where
+pub record Checked (table : Table) (row : Bytes) (slots : Slots) (n slot : ℕ) : Type 0 where
   pub inside : slot ≤ n
-  pub rest : checkTexts row slots n 0 ≡ checkTexts row slots (n - slot) slot
+  pub rest : checkTexts table row slots n 0 ≡ checkTexts table row slots (n - slot) slot
 
-pub begin : (row : Bytes) (slots : Slots) (n : ℕ) → Checked row slots n 0
-begin row slots n = record { inside = omega arith; rest = rw (sub-zero n) }
+pub begin : (table : Table) (row : Bytes) (slots : Slots) (n : ℕ) → Checked table row slots n 0
+begin table row slots n = record { inside = omega arith; rest = rw (sub-zero n) }
 
-module _ {row : Bytes} {slots : Slots} {n slot : ℕ} (c : Checked row slots n slot) where
-  pub end : n ≤ slot → given tt ≡ checkTexts row slots n 0
+module _ {table : Table} {row : Bytes} {slots : Slots} {n slot : ℕ} (c : Checked table row slots n slot) where
+  pub end : n ≤ slot → given tt ≡ checkTexts table row slots n 0
   unfolding checkTexts
   end h = let z : n - slot ≡ 0 = omega arith in sym (c .rest ∙ rw z)
 
-  module _ (h : slot < n) {start : ℕ} (s : start ≡ slotStart slots row slot) where
-    turn : (found : Text) → textOf found ≡ readText row start
-        → checkTexts row slots n 0 ≡ andThen (textOf found) (λ _. checkTexts row slots (n - (slot + 1)) (slot + 1))
+  module _ (h : slot < n) where
+    turn : (found : Text) → textOf found ≡ textInSlot table row slots slot
+        → checkTexts table row slots n 0 ≡ andThen (textOf found) (λ _. checkTexts table row slots (n - (slot + 1)) (slot + 1))
     unfolding checkTexts
-    turn found t = c .rest ∙ rw (left-step h, ← s, ← t)
+    turn found t = c .rest ∙ rw (left-step h, ← t)
 
-    pub good : {found : Text} {place len : ℕ} {encoding : Encoding} → found ≡ At place len encoding → textOf found ≡ readText row start
-        → Checked row slots n (slot + 1)
+    pub good : {found : Text} {place len : ℕ} {encoding : Encoding} → found ≡ At place len encoding → textOf found ≡ textInSlot table row slots slot
+        → Checked table row slots n (slot + 1)
     good {found} e t = record { inside = omega arith; rest = turn found t ∙ rw e }
 
-    pub bad : {found : Text} → found ≡ Malformed → textOf found ≡ readText row start → refused (fault 15 0) ≡ checkTexts row slots n 0
+    pub bad : {found : Text} → found ≡ Malformed → textOf found ≡ textInSlot table row slots slot → refused (fault 15 0) ≡ checkTexts table row slots n 0
     bad {found} e t = sym (turn found t ∙ rw e)

@@ -16,17 +16,17 @@ use Rattle.row.specs.declared.Layout.the-variants.{Known, Unknown}
 use Rattle.row.specs.Layout.{rowLayout, slotsIn, slotStart}
 
 -- is true exactly when byte i belongs to a string of the row
-unfoldable pub slotByte : (row : Bytes) (slots : Slots) (i : ℕ) → Bool
-slotByte row slots i = anyFrom (λ (slot : ℕ). textByte row (slotStart slots row slot) i) (slotsIn slots) 0
+unfoldable pub slotByte : (table : Table) (row : Bytes) (slots : Slots) (i : ℕ) → Bool
+slotByte table row slots i = anyFrom (λ (slot : ℕ). textByte table slot row (slotStart slots row slot) i) (slotsIn slots) 0
 
 -- Rule 7.6.
-abbrev pub layoutByte : (row : Bytes) (layout : Layout) (i : ℕ) → Bool
-layoutByte row (Known fixed slots) i = cond (ltb (length row) fixed) false (within 0 fixed i || slotByte row slots i)
-layoutByte row Unknown i = false
+abbrev pub layoutByte : (table : Table) (row : Bytes) (layout : Layout) (i : ℕ) → Bool
+layoutByte table row (Known fixed slots) i = cond (ltb (length row) fixed) false (within 0 fixed i || slotByte table row slots i)
+layoutByte table row Unknown i = false
 
 -- Rule 7.7: the subtype of an artist row (table 2).
 unfoldable pub subtypeByte : (table : Table) (row : Bytes) (i : ℕ) → Bool
 subtypeByte table row i = (eqb (tableNumber table) 2 && leb 0x0a (length row)) && within 0x00 2 i
 
 unfoldable pub rowByte : (table : Table) (row : Bytes) (i : ℕ) → Bool
-rowByte table row i = subtypeByte table row i || layoutByte row (rowLayout table row) i
+rowByte table row i = subtypeByte table row i || layoutByte table row (rowLayout table row) i

@@ -1,5 +1,5 @@
 pub mod Layout
+pub mod Slot
 pub mod Check
 pub mod Record
-pub mod Slot
 pub mod Bytes

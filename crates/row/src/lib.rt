@@ -146,31 +146,32 @@ fn artist_layout(row: &[u8]) -> Layout
     }
 }
 
-// Whether the strings of a row are well-formed.
-fn check_texts(row: &[u8], slots: Slots) -> Check
-    ensures { λ r. ⌜ checkOf r ≡ checkTexts (now (row .entry)) slots (slotsIn slots) 0 ⌝ }
+// The string of a slot: every string is read here.
+fn text_in_slot(table: Table, row: &[u8], slots: Slots, slot: usize) -> Text
+    ensures { λ r. ⌜ textOf r ≡ textInSlot table (now (row .entry)) slots slot ⌝ }
 {
-    let count = slots.count();
-    let mut slot: u8 = 0;
+    let count = slots.count() as usize;
+    if slot < count {
+        text::read(table, slot, row, slots.start(row, slot as u8))
+    } else {
+        Text::Malformed
+    }
+}
+
+// Whether the strings of a row are well-formed.
+fn check_texts(table: Table, row: &[u8], slots: Slots) -> Check
+    ensures { λ r. ⌜ checkOf r ≡ checkTexts table (now (row .entry)) slots (slotsIn slots) 0 ⌝ }
+{
+    let count = slots.count() as usize;
+    let mut slot: usize = 0;
     while slot < count {
-        let found = text::read(row, slots.start(row, slot));
+        let found = text_in_slot(table, row, slots, slot);
         if let Text::Malformed = found {
             return Check::TextFault;
         }
         slot += 1;
     }
     Check::Good
-}
-
-fn text_in_slot(row: &[u8], slots: Slots, slot: usize) -> Text
-    ensures { λ r. ⌜ textOf r ≡ textInSlot (now (row .entry)) slots slot ⌝ }
-{
-    let count = slots.count() as usize;
-    if slot < count {
-        text::read(row, slots.start(row, slot as u8))
-    } else {
-        Text::Malformed
-    }
 }
 
 fn track_record(row: &[u8]) -> Track
@@ -259,7 +260,7 @@ pub fn check_row(table: Table, row: &[u8]) -> Check
             if row.len() < fixed {
                 return Check::RowFault;
             }
-            check_texts(row, slots)
+            check_texts(table, row, slots)
         }
         Layout::Unknown => Check::RowFault,
     }
@@ -271,7 +272,7 @@ pub fn slot_text(table: Table, row: &[u8], slot: usize) -> Text
 {
     let layout = row_layout(table, row);
     match layout {
-        Layout::Known(_, slots) => text_in_slot(row, slots, slot),
+        Layout::Known(_, slots) => text_in_slot(table, row, slots, slot),
         Layout::Unknown => Text::Malformed,
     }
 }

@@ -1,5 +1,5 @@
--- Rules 1.1, 2.8, 5.15: the ten tables, their numbers and their string slots.
-use mathlib.Core.Bool.{cond}
+-- Rules 1.1, 2.8, 5.15, 6.11: the ten tables, their numbers and their string slots.
+use mathlib.Core.Bool.{Bool, cond, _&&_}
 use Prim.Native.Nat.{ℕ}
 use lib.Dec.{eqb}
 use Rattle.refusal.specs.Fault.{fault, faultOf}
@@ -53,3 +53,7 @@ slotCount Colors = 1
 slotCount PlaylistTree = 1
 slotCount PlaylistEntries = 0
 slotCount Artwork = 1
+
+-- Rule 6.11: slot 0 of table 0 may hold recording codes, and no other.
+unfoldable pub holdsCodes : (table : Table) (slot : ℕ) → Bool
+holdsCodes table slot = eqb (tableNumber table) 0 && eqb slot 0

@@ -1,6 +1,6 @@
 // The ten tables, by their type's number.
 ghost use mathlib.Core.Path.{_≡_};
-ghost use Rattle.table.specs.Table.{tableNumber, tableOf, slotCount, tableReplyOf};
+ghost use Rattle.table.specs.Table.{tableNumber, tableOf, slotCount, tableReplyOf, holdsCodes};
 use refusal::Refusal;
 
 pub enum Table {
@@ -75,5 +75,11 @@ impl Table {
             Table::PlaylistEntries => 0,
             Table::Artwork => 1,
         }
+    }
+    // Whether a string slot may hold recording codes.
+    pub fn holds_codes(self, slot: usize) -> bool
+        ensures { λ r. ⌜ r ≡ holdsCodes self slot ⌝ }
+    {
+        self.number() == 0 && slot == 0
     }
 }

@@ -1,4 +1,5 @@
--- `read` and `behind` test what the rungs of `readText` and `textBehind` test, in the same order (read/Proof, behind/Proof).
--- TextInside: what is found lies inside the part that was read. TextAgree: the string depends on its head and text alone.
+-- `read` tests what the rungs of `readText` test, in the same order; `first_zero` searches forward (ZeroLoop).
+-- TextInside: what is found lies inside the part that was read. TextAgree: the string depends on its relevant bytes alone.
+pub mod ZeroLoop
 pub mod TextInside
 pub mod TextAgree

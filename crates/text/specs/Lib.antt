@@ -1,2 +1,5 @@
+pub mod Zero
+pub mod Code
 pub mod Text
 pub mod Bytes
+pub mod Private

@@ -1,8 +1,15 @@
 // DeviceSQL strings: where a string's text stands, how long it is, and its encoding.
 ghost use mathlib.Core.Path.{_≡_};
-ghost use Prim.Native.Nat.{_<_};
+ghost use Prim.Native.Nat.{_<_, _+_};
 ghost use lib.ListN.{length};
-ghost use Rattle.text.specs.Text.{textBehind, readText, textOf};
+ghost use Rattle.lists.specs.Subslice.{subslice};
+ghost use Rattle.number.specs.Number.{byteAt};
+ghost use Rattle.refusal.specs.Answer.{given};
+ghost use Rattle.text.specs.Zero.{firstZero};
+ghost use Rattle.text.specs.Code.{isCode};
+ghost use Rattle.text.specs.Private.{zeroOf};
+ghost use Rattle.text.specs.Text.{isInside, ifInside, restBehind, codeText, textByKind, readText, textOf};
+use table::Table;
 
 pub enum Encoding {
     Ascii,
@@ -21,51 +28,115 @@ pub enum Text {
     Malformed,
 }
 
-// The text behind a head of so many bytes, in a string of whole bytes.
-fn behind(s: &[u8], at: usize, head: usize, whole: usize, encoding: Encoding) -> Text
-    requires { ⌜ (at < length (now s)) × (head < 5) ⌝ }
-    ensures { λ r. ⌜ textOf r ≡ textBehind (now (s .entry)) at head whole encoding ⌝ }
+// The place of a zero byte.
+enum Zero {
+    At(usize),
+    Absent,
+}
+
+fn first_zero(bytes: &[u8]) -> Zero
+    ensures { λ r. ⌜ zeroOf r ≡ firstZero (now (bytes .entry)) 0 ⌝ }
 {
-    if whole < head {
-        return Text::Malformed;
+    let mut i: usize = 0;
+    while i < bytes.len() {
+        if bytes[i] == 0 {
+            return Zero::At(i);
+        }
+        i += 1;
     }
-    if s.len() - at < head {
-        return Text::Malformed;
-    }
-    if s.len() - at < whole {
-        return Text::Malformed;
-    }
-    Text::At {
-        place: at + head,
-        len: whole - head,
-        encoding,
+    Zero::Absent
+}
+
+// A recording code's text, from start to the first zero byte before end.
+fn code(s: &[u8], start: usize, end: usize) -> Text
+    ensures { λ r. ⌜ textOf r ≡ codeText start (firstZero (subslice (now (s .entry)) start end) 0) ⌝ }
+{
+    match first_zero(lists::subslice(s, start, end)) {
+        Zero::At(len) => Text::At {
+            place: start,
+            len,
+            encoding: Encoding::Ascii,
+        },
+        Zero::Absent => Text::Malformed,
     }
 }
 
-// The string at an offset of a row's part, which ends where the row index begins.
-pub fn read(s: &[u8], at: usize) -> Text
-    ensures { λ r. ⌜ textOf r ≡ readText (now (s .entry)) at ⌝ }
+// Whether a string of whole bytes has its head and ends inside the part.
+fn is_inside(s: &[u8], at: usize, head: usize, whole: usize) -> bool
+    requires { ⌜ at < length (now s) ⌝ }
+    ensures { λ r. ⌜ r ≡ isInside (now (s .entry)) at head whole ⌝ }
+{
+    let left = s.len() - at;
+    if whole < head {
+        return false;
+    }
+    head <= left && whole <= left
+}
+
+// Whether a `90` string of whole bytes holds a recording code.
+fn is_code(table: Table, slot: usize, s: &[u8], at: usize, whole: usize) -> bool
+    requires { ⌜ at < length (now s) ⌝ }
+    ensures { λ r. ⌜ r ≡ isCode table slot 0x90 whole (byteAt (now (s .entry)) (at + 4)) ⌝ }
+{
+    if !table.holds_codes(slot) {
+        return false;
+    }
+    let behind = number::byte_at(s, at + 4);
+    5 <= whole && behind == 0x03
+}
+
+// A string of kind `90`.
+fn wide(table: Table, slot: usize, s: &[u8], at: usize) -> Text
+    requires { ⌜ at < length (now s) ⌝ }
+    ensures { λ r. ⌜ textOf r ≡ textByKind table slot (now (s .entry)) at 0x90 ⌝ }
+{
+    let whole = number::u16_at(s, at + 1) as usize;
+    if !is_inside(s, at, 4, whole) {
+        return Text::Malformed;
+    }
+    if is_code(table, slot, s, at, whole) {
+        return code(s, at + 5, at + whole);
+    }
+    if whole % 2 == 1 {
+        return Text::Malformed;
+    }
+    Text::At {
+        place: at + 4,
+        len: whole - 4,
+        encoding: Encoding::Utf16,
+    }
+}
+
+// An ASCII string of whole bytes: the rest behind its head.
+fn ascii(s: &[u8], at: usize, head: usize, whole: usize) -> Text
+    requires { ⌜ (at < length (now s)) × (head < 5) ⌝ }
+    ensures { λ r. ⌜ textOf r ≡ ifInside (now (s .entry)) at head whole (given (restBehind at head whole Encoding.Ascii)) ⌝ }
+{
+    if is_inside(s, at, head, whole) {
+        Text::At {
+            place: at + head,
+            len: whole - head,
+            encoding: Encoding::Ascii,
+        }
+    } else {
+        Text::Malformed
+    }
+}
+
+// The string at an offset of a row's part, which ends where the row index begins, in this slot of this table.
+pub fn read(table: Table, slot: usize, s: &[u8], at: usize) -> Text
+    ensures { λ r. ⌜ textOf r ≡ readText table slot (now (s .entry)) at ⌝ }
 {
     if s.len() <= at {
         return Text::Malformed;
     }
     let first = number::byte_at(s, at);
     match first {
-        0x40 => {
-            let whole = number::u16_at(s, at + 1) as usize;
-            behind(s, at, 4, whole, Encoding::Ascii)
-        }
-        0x90 => {
-            let whole = number::u16_at(s, at + 1) as usize;
-            if whole % 2 == 1 {
-                Text::Malformed
-            } else {
-                behind(s, at, 4, whole, Encoding::Utf16)
-            }
-        }
+        0x40 => ascii(s, at, 4, number::u16_at(s, at + 1) as usize),
+        0x90 => wide(table, slot, s, at),
         _ => {
             if first % 2 == 1 {
-                behind(s, at, 1, (first / 2) as usize, Encoding::Ascii)
+                ascii(s, at, 1, (first / 2) as usize)
             } else {
                 Text::Malformed
             }

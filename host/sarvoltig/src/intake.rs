@@ -249,6 +249,8 @@ impl<'a> Intake<'a> {
 
     /// Asks for a string of record `k` of a table, by its slot. It walks the whole table.
     ///
+    /// Slot 0 of a track may hold a recording code, see [`Track::ISRC`](crate::Track::ISRC).
+    ///
     /// # Errors
     /// Refusals 1 to 4, 8 to 16, 18, and 19 where the table has no such slot.
     pub fn text(&self, table: Table, k: u64, slot: u64) -> Result<Reply<Text<'_>>, Refusal> {
@@ -290,7 +292,8 @@ impl<'a> Intake<'a> {
         })
     }
 
-    /// Reads a string of element `i` of a list, by its slot, as [`record_in`](Self::record_in) reads its record.
+    /// Reads a string of element `i` of a list, by its slot, as [`record_in`](Self::record_in) reads its record and
+    /// [`text`](Self::text) the string.
     ///
     /// ```
     /// # use sarvoltig::*;

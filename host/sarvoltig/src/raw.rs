@@ -201,6 +201,8 @@ pub fn record(len: u64, image: &[u8], map: &[u64], table: u32, k: u64, result: &
 }
 
 /// Asks for a string slot of record `k`. Values: place, length in bytes, encoding (0 ASCII, 1 UTF-16LE).
+///
+/// Slot 0 of a track may hold a recording code: the values are those of the code alone, with encoding 0.
 pub fn text(
     len: u64,
     image: &[u8],

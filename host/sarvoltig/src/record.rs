@@ -97,6 +97,28 @@ pub struct Track {
 }
 
 impl Track {
+    /// The string slot of the recording code, which is a text like others; empty where a track has none.
+    ///
+    /// In this slot alone a string of kind `90` may hold a code: `03`, the code and a zero byte behind the four head
+    /// bytes. Its text is the code without the two, of encoding [`Ascii`](crate::Encoding::Ascii). Its bytes are not
+    /// tested for ASCII. Without the zero byte it is refused with 15. A string of kind `90` with another first byte is
+    /// UTF-16, as in every slot.
+    ///
+    /// ```
+    /// # use sarvoltig::*;
+    /// # let file = std::fs::read("../tools/data/demo.pdb")?;
+    /// # let mut image = vec![0; file.len()];
+    /// # let mut map = vec![0; map_words(file.len() as u64)];
+    /// # let mut intake = Intake::open(&mut image, &mut map)?;
+    /// # for (number, piece) in (0..).zip(file.chunks(BLOCK)) {
+    /// #     intake.deliver(number, piece)?;
+    /// # }
+    /// for track in &intake.rows(Table::Tracks)? {
+    ///     println!("{}  {}", track.text(Track::TITLE)?, track.text(Track::ISRC)?);
+    /// }
+    /// # Ok::<(), Box<dyn std::error::Error>>(())
+    /// ```
+    pub const ISRC: u64 = 0;
     /// The string slot of the title.
     pub const TITLE: u64 = 17;
 

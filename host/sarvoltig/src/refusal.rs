@@ -45,7 +45,7 @@ pub enum Refusal {
     RowIndex(u64),
     /// 14: a row of the page does not fit, or is an artist of unknown subtype.
     RowShort(u64),
-    /// 15: a string of the page is malformed or leaves it.
+    /// 15: a string of the page is malformed or leaves it, or a recording code has no zero byte.
     TextFault(u64),
     /// 16: the chain meets a page twice.
     ChainLoop,

@@ -4,7 +4,7 @@
 #[derive(Clone, Copy, Debug, PartialEq, Eq, Hash, PartialOrd, Ord)]
 #[repr(u32)]
 pub enum Table {
-    /// Tracks, with 21 string slots.
+    /// Tracks, with 21 string slots. Slot 0 may hold a recording code ([`Track::ISRC`](crate::Track::ISRC)).
     Tracks = 0,
     /// Genres.
     Genres = 1,

@@ -5,7 +5,7 @@ use std::fmt;
 /// How a text's bytes are to be read.
 #[derive(Clone, Copy, Debug, PartialEq, Eq, Hash)]
 pub enum Encoding {
-    /// One byte a character.
+    /// One byte a character; a byte may also be above `7f`. Recording codes are of this encoding.
     Ascii,
     /// UTF-16, little-endian.
     Utf16Le,
@@ -19,6 +19,8 @@ pub enum Encoding {
 /// use sarvoltig::{Encoding, Text};
 /// let text = Text { place: 0, bytes: b"F\0u\0n\0k\0", encoding: Encoding::Utf16Le };
 /// assert_eq!(text.to_string(), "Funk");
+/// let text = Text { place: 0, bytes: b"SE\xe92400001", encoding: Encoding::Ascii };
+/// assert_eq!(text.to_string(), "SE\u{fffd}2400001");
 /// ```
 #[derive(Clone, Copy, Debug, PartialEq, Eq, Hash)]
 pub struct Text<'a> {

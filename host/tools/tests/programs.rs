@@ -1,5 +1,6 @@
 //! The programs as they are called from a shell.
 
+use sarvoltig::{map_words, Encoding, Intake, Table, Track, BLOCK};
 use sarvoltig_reference::schedule::{anlz_run, compared_run, Call};
 use sarvoltig_reference::{anlz, generate};
 use sarvoltig_tools::failure::Failure;
@@ -46,13 +47,94 @@ fn the_demo_ends_with_the_playlists() {
         assert!(output.status.success());
         let text = String::from_utf8_lossy(&output.stdout);
         assert!(text.contains("54 of 54 blocks held"), "{text}");
-        assert!(text.ends_with("   8  Last Bus Home\n"), "{text}");
+        let last = text.lines().last().unwrap_or_default();
+        assert!(last.starts_with("       8  Last Bus Home"), "{text}");
     }
     let tail = |output: &Output| {
         let text = String::from_utf8_lossy(&output.stdout).into_owned();
         text[text.find("Saturday/").expect("the folder")..].to_string()
     };
     assert_eq!(tail(&usual), tail(&harsh));
+}
+
+/// A track of an export: where its row starts, its title, and the code that is to be listed.
+struct Listed {
+    place: usize,
+    title: String,
+    code: Option<String>,
+}
+
+fn listed(file: &[u8]) -> Vec<Listed> {
+    let mut image = vec![0; file.len()];
+    let mut map = vec![0; map_words(file.len() as u64)];
+    let mut intake = Intake::open(&mut image, &mut map).expect("an allowed length");
+    for (block, piece) in (0..).zip(file.chunks(BLOCK)) {
+        intake.deliver(block, piece).expect("a new block");
+    }
+    let rows = intake.rows(Table::Tracks).expect("a good table");
+    rows.iter()
+        .map(|row| {
+            let code = row.text(Track::ISRC).expect("found");
+            let has_code = code.encoding == Encoding::Ascii && !code.bytes.is_empty();
+            Listed {
+                place: row.place() as usize,
+                title: row.text(Track::TITLE).expect("found").to_string(),
+                code: has_code.then(|| code.to_string()),
+            }
+        })
+        .collect()
+}
+
+/// The lines that the demo prints for tracks: an index, and what follows it.
+fn track_lines(path: &Path) -> Vec<String> {
+    let output = demo(&[path.to_str().expect("text")]);
+    assert!(output.status.success());
+    let text = String::from_utf8_lossy(&output.stdout);
+    let tracks = text.split_once("\n\n").expect("the playlists").1.lines();
+    tracks
+        .filter_map(|line| line.trim_start().split_once("  "))
+        .filter(|(index, _)| index.parse::<u32>().is_ok())
+        .map(|(_, track)| track.to_string())
+        .collect()
+}
+
+#[test]
+fn the_demo_lists_the_stored_codes() {
+    let tracks = listed(&generate::demo());
+    assert!(tracks.iter().any(|track| track.code.is_some()));
+    assert!(tracks.iter().any(|track| track.code.is_none()));
+    let lines = track_lines(&stored_export());
+    for Listed { title, code, .. } in &tracks {
+        let shown = |line: &String| match code {
+            Some(code) => {
+                line.starts_with(&format!("{title}  ")) && line.ends_with(&format!("  {code}"))
+            }
+            None => line == title,
+        };
+        assert!(lines.iter().any(shown), "{title} {code:?}: {lines:?}");
+    }
+}
+
+/// Slot 0 of some tracks is made to name the string of another of their slots.
+#[test]
+fn the_demo_lists_ascii_texts_of_slot_0() {
+    const OFFSETS: usize = 0x5e;
+    const DATE_ADDED: usize = 10;
+    let mut file = generate::demo();
+    let tracks = listed(&file);
+    let mut name = |k: usize, slot: usize| {
+        let offsets = tracks[k].place + OFFSETS;
+        file.copy_within(offsets + 2 * slot..offsets + 2 * slot + 2, offsets);
+        offsets - OFFSETS + usize::from(file[offsets]) + (usize::from(file[offsets + 1]) << 8)
+    };
+    name(0, DATE_ADDED);
+    let date = name(1, DATE_ADDED);
+    name(7, Track::TITLE as usize);
+    file[date + 1] = 0x1b;
+    let lines = track_lines(&written("codes.pdb", &file));
+    assert_eq!(lines[0], "Morning Tram  2024-05-11");
+    assert_eq!(lines[1], "Copper Wire   \u{fffd}024-05-11");
+    assert_eq!(lines[7], "Blå Timme");
 }
 
 #[test]

@@ -6,22 +6,22 @@ use Rattle.row.proofs.check_texts.Statement.{statement}
 use Rattle.row.proofs.check_texts.Tie as tie
 
 abbrev Inv-loop : tie.InvT-loop
-Inv-loop row slots count slot₀ slot = Checked row slots count slot
+Inv-loop table row slots count slot₀ slot = Checked table row slots count slot
 
 abbrev μ-loop : tie.MeasureT-loop
-μ-loop row slots count slot₀ slot = count - slot
+μ-loop table row slots count slot₀ slot = count - slot
 
 count-requires : tie.Need-count-requires Inv-loop μ-loop
 count-requires c κs = search needs
 
+cast-count : tie.Need-cast-count Inv-loop μ-loop
+cast-count c = search needs
+
 loop-holds : tie.Need-loop-holds Inv-loop μ-loop
-loop-holds c = begin _ _ _
+loop-holds c = begin _ _ _ _
 
-start-requires : tie.Need-start-requires Inv-loop μ-loop
-start-requires c κs = search needs
-
-read-requires : tie.Need-read-requires Inv-loop μ-loop
-read-requires c κs = search needs
+text-in-slot-requires : tie.Need-text-in-slot-requires Inv-loop μ-loop
+text-in-slot-requires c κs = search needs
 
 enum-told : tie.Need-enum-told Inv-loop μ-loop
 enum-told c = search needs
@@ -29,9 +29,9 @@ enum-told c = search needs
 returns : tie.Need-returns Inv-loop μ-loop
 returns c =
     let read = c .before .before in
-    let turn = read .before .before in
+    let turn = read .before in
     rw (← turn .before .before .count .ensures)
-    (bad (turn .before .loop .inv) (turn .loop-test .taken) (read .before .start .ensures) (c .enum-told .given .1) (read .read .ensures))
+    (bad (turn .before .loop .inv) (turn .loop-test .taken) (c .enum-told .given .1) (read .text-in-slot .ensures))
 
 enum-told-2 : tie.Need-enum-told-2 Inv-loop μ-loop
 enum-told-2 c = search needs
@@ -45,8 +45,8 @@ loop-less c = search needs
 loop-again : tie.Need-loop-again Inv-loop μ-loop
 loop-again c =
     let read = c .before .before in
-    let turn = read .before .before in
-    good (turn .before .loop .inv) (turn .loop-test .taken) (read .before .start .ensures) (c .enum-told2 .given .1) (read .read .ensures)
+    let turn = read .before in
+    good (turn .before .loop .inv) (turn .loop-test .taken) (c .enum-told2 .given .1) (read .text-in-slot .ensures)
 
 returns-2 : tie.Need-returns-2 Inv-loop μ-loop
 returns-2 c = rw (← c .before .before .count .ensures) (end (c .before .loop .inv) (c .loop-test .left))
@@ -58,9 +58,9 @@ check-texts-spec =
     Inv-loop
     μ-loop
     count-requires
+    cast-count
     loop-holds
-    start-requires
-    read-requires
+    text-in-slot-requires
     enum-told
     returns
     enum-told-2

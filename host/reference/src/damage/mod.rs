@@ -1,11 +1,13 @@
 //! Damaged exports.
 
+mod codes;
 mod header;
 mod pages;
 mod rows;
 mod target;
 
 use crate::layout::Layout;
+use crate::model::Table;
 use crate::rng::Rng;
 use target::Target;
 
@@ -54,6 +56,13 @@ pub enum Kind {
     StringHead,
     /// A string that ends near the index.
     StringAtEnd,
+    /// The kind, the total, the `03` or the zero byte of a recording code.
+    Code,
+    /// A recording code that ends near the index.
+    CodeAtEnd,
+    /// The string of slot 0 of a track becomes that of another slot, or the
+    /// other way round.
+    StringOfOtherSlot,
     /// A byte above the lowest of a four-byte number of a header or pointer.
     HighByte,
     /// Some bytes anywhere.
@@ -64,7 +73,7 @@ pub enum Kind {
 
 impl Kind {
     /// All kinds.
-    pub const ALL: [Kind; 24] = [
+    pub const ALL: [Kind; 27] = [
         Kind::FirstBytes,
         Kind::LenPage,
         Kind::NumTables,
@@ -86,6 +95,9 @@ impl Kind {
         Kind::StringOffset,
         Kind::StringHead,
         Kind::StringAtEnd,
+        Kind::Code,
+        Kind::CodeAtEnd,
+        Kind::StringOfOtherSlot,
         Kind::HighByte,
         Kind::Bytes,
         Kind::Blocks,
@@ -110,6 +122,11 @@ impl Kind {
     fn of_rows() -> &'static [Kind] {
         &Kind::ALL[15..21]
     }
+
+    /// Kinds about recording codes, for files with tracks.
+    fn of_codes() -> &'static [Kind] {
+        &Kind::ALL[21..24]
+    }
 }
 
 /// Damages an export in one way, or in several when it has several tables.
@@ -124,13 +141,16 @@ impl Kind {
 /// ```
 pub fn damage(export: &[u8], rng: &mut Rng) -> Vec<u8> {
     let mut bytes = export.to_vec();
-    let tables = Layout::new(export).table_pointers().len().max(1) as u64;
-    let (kinds, most) = match rng.below(18) {
+    let pointers = Layout::new(export).table_pointers();
+    let has_tracks = pointers.iter().any(|(table, _)| *table == Table::Tracks);
+    let tables = pointers.len().max(1) as u64;
+    let (kinds, most) = match rng.below(21) {
         0 => (Kind::of_header(), 1),
         1..4 => (Kind::of_links(), tables.div_ceil(2)),
         4..6 => (Kind::of_counts(), tables.div_ceil(2)),
         6..14 => (Kind::of_rows(), tables),
         14..16 => (&[Kind::HighByte][..], 1),
+        16..19 if has_tracks => (Kind::of_codes(), 2),
         _ => (&Kind::ALL[..], tables),
     };
     for _ in 0..1 + rng.below(most) {
@@ -173,6 +193,9 @@ pub fn apply(kind: Kind, export: &mut [u8], rng: &mut Rng) {
         Kind::StringOffset => target.string_offset(),
         Kind::StringHead => target.string_head(),
         Kind::StringAtEnd => target.string_at_end(),
+        Kind::Code => target.code(),
+        Kind::CodeAtEnd => target.code_at_end(),
+        Kind::StringOfOtherSlot => target.string_of_other_slot(),
         Kind::HighByte => target.high_byte(),
         Kind::Bytes => target.any_bytes(),
         Kind::Blocks => target.any_blocks(),

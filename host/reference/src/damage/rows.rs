@@ -1,5 +1,6 @@
 //! Rows and strings.
 
+use super::codes::track_offset_at;
 use super::target::{Row, Target};
 use crate::model::bytes::u16_at;
 use crate::model::{Table, PAGE_HEADER};
@@ -133,7 +134,7 @@ impl Target<'_> {
     }
 
     /// Puts what lies in the heap.
-    fn put_in_heap(&mut self, row: &Row, at: usize, bytes: &[u8]) {
+    pub fn put_in_heap(&mut self, row: &Row, at: usize, bytes: &[u8]) {
         let inside = row.heap.end.saturating_sub(at).min(bytes.len());
         self.put(at, &bytes[..inside]);
     }
@@ -150,7 +151,7 @@ impl Target<'_> {
             _ => self.rng.index(21),
         };
         match row.table {
-            Table::Tracks => Some((row.start + 0x5e + 2 * slot, 2)),
+            Table::Tracks => Some((track_offset_at(row, slot), 2)),
             Table::Artists if self.bytes.get(row.start) == Some(&0x64) => {
                 Some((row.start + 0x0a, 2))
             }

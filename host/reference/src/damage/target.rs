@@ -63,6 +63,19 @@ impl<'a> Target<'a> {
     /// A present row of any chain.
     pub fn row(&mut self) -> Option<Row> {
         let pointer = self.pointer();
+        self.row_of_chain(pointer)
+    }
+
+    /// A present row of the tracks.
+    pub fn track(&mut self) -> Option<Row> {
+        let pointers = self.layout().table_pointers();
+        let mut pointers = pointers.into_iter();
+        let (_, pointer) = pointers.find(|(table, _)| *table == Table::Tracks)?;
+        let row = self.row_of_chain(pointer);
+        row.filter(|row| row.table == Table::Tracks)
+    }
+
+    fn row_of_chain(&mut self, pointer: usize) -> Option<Row> {
         let layout = self.layout();
         let mut rows: Vec<Row> = layout
             .chain(pointer)

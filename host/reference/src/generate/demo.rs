@@ -1,11 +1,13 @@
 //! The content of the demo export. All names are made up.
 
-use super::content::{Row, Tables};
+use super::content::{Row, Tables, Text};
 use crate::model::Table;
 
 const GENRES: [&str; 5] = ["House", "Techno", "Funk", "Ambient", "Breaks"];
 const KEYS: [&str; 6] = ["Am", "C", "Em", "Fm", "Gm", "D"];
 const LABELS: [&str; 3] = ["Tin Roof", "Nine Ferries", "Oblong"];
+/// How the recording codes of each label start.
+const CODES: [&str; 3] = ["GBTRF", "SENFE", "FROBL"];
 const COLORS: [&str; 8] = [
     "Pink", "Red", "Orange", "Yellow", "Green", "Aqua", "Blue", "Purple",
 ];
@@ -146,7 +148,7 @@ fn track((id, title): (u64, &str)) -> Row {
         ("id", id),
         ("disc_number", 1),
         ("play_count", id % 7),
-        ("year", 2001 + id),
+        ("year", year(id)),
         ("sample_depth", 16),
         ("duration", 180 + 7 * id),
         ("color_id", id % 9),
@@ -163,5 +165,27 @@ fn track((id, title): (u64, &str)) -> Row {
         (19, filename.as_str()),
         (20, file_path.as_str()),
     ];
-    Row::new(Table::Tracks, &numbers, &texts)
+    let mut row = Row::new(Table::Tracks, &numbers, &texts);
+    if let Some(code) = recording_code(id) {
+        row.texts[0] = code;
+    }
+    row
+}
+
+fn year(id: u64) -> u64 {
+    2001 + id
+}
+
+/// Three of four tracks have a code, with none, one or two bytes behind its
+/// zero byte.
+fn recording_code(id: u64) -> Option<Text> {
+    let padding = match id % 4 {
+        0 => return None,
+        1 => &[][..],
+        2 => &[0],
+        _ => &[0, 0],
+    };
+    let label = CODES[id as usize % CODES.len()];
+    let code = format!("{label}{:02}{id:05}", year(id) % 100);
+    Some(Text::code(code.as_bytes(), padding))
 }

@@ -1,6 +1,6 @@
 //! A row as it stands in the heap, by the figures of document 003.
 
-use super::content::{fields, Kind, Row, Text};
+use super::content::{fields, Row, Text};
 use super::Options;
 use crate::model::{index_size, Table, PAGE_HEADER};
 use crate::rng::Rng;
@@ -28,19 +28,21 @@ impl Chunk {
         self.parts.push((at, bytes.to_vec()));
     }
 
-    /// Appends a string as the next slot's and gives its offset. The byte that
-    /// follows a long string's length is not put.
+    /// Appends a string and gives its offset. The byte that follows a long
+    /// string's length is not put.
     fn append(&mut self, text: &Text) -> usize {
         let at = self.len;
-        let total = text.total() as u16;
-        match text.kind {
-            Kind::Short => self.put(at, &[(total << 1 | 1) as u8]),
-            Kind::Long => self.put(at, &[0x40, total as u8, (total >> 8) as u8]),
-            Kind::Wide => self.put(at, &[0x90, total as u8, (total >> 8) as u8]),
-        }
-        self.put(at + text.head(), &text.bytes);
+        let (head, body) = (text.head(), text.body());
+        self.put(at, &head);
         self.len += text.total();
-        self.texts.push(at + text.head());
+        self.put(self.len - body.len(), &body);
+        at
+    }
+
+    /// Appends the only string of a row and gives its offset.
+    fn append_name(&mut self, name: &Text) -> usize {
+        let at = self.append(name);
+        self.texts.push(at + name.start());
         at
     }
 }
@@ -89,8 +91,8 @@ pub(super) fn encode(table: Table, row: &Row, options: &Options, rng: &mut Rng) 
             let offset = put_name_behind_gap(&mut chunk, &row.texts[0], 0xff, options, rng);
             chunk.put(0x15, &[offset as u8]);
         }
-        _ => row.texts.iter().for_each(|text| {
-            chunk.append(text);
+        _ => row.texts.iter().for_each(|name| {
+            chunk.append_name(name);
         }),
     }
     chunk
@@ -109,11 +111,11 @@ fn put_name_behind_gap(
     if !options.tidy && rng.chance(1, 2) {
         chunk.len += rng.index(room.min(farthest - chunk.len) + 1);
     }
-    chunk.append(name)
+    chunk.append_name(name)
 }
 
 /// Equal strings stand once; an empty one may stand in the row's first
-/// byte, which no rule names.
+/// byte, which no rule names. Slot 0 has the first of the others, or the last.
 fn put_track_strings(chunk: &mut Chunk, texts: &[Text], options: &Options, rng: &mut Rng) {
     let mut seen: Vec<(&Text, usize)> = Vec::new();
     let empty = Text::of("");
@@ -121,19 +123,23 @@ fn put_track_strings(chunk: &mut Chunk, texts: &[Text], options: &Options, rng: 
         chunk.put(0x00, &[0x03]);
         seen.push((&empty, 0));
     }
-    for (slot, text) in texts.iter().enumerate() {
-        let shared = seen.iter().find(|(other, _)| *other == text);
+    let mut slots: Vec<usize> = (0..texts.len()).collect();
+    if !options.tidy && rng.chance(1, 4) {
+        slots.reverse();
+    }
+    chunk.texts = vec![0; texts.len()];
+    for slot in slots {
+        let text = &texts[slot];
+        let shared = seen.iter().find(|(other, _)| other.same_string(text));
         let offset = match shared {
-            Some((_, offset)) => {
-                chunk.texts.push(offset + text.head());
-                *offset
-            }
+            Some((_, offset)) => *offset,
             None => {
                 let offset = chunk.append(text);
                 seen.push((text, offset));
                 offset
             }
         };
+        chunk.texts[slot] = offset + text.start();
         chunk.put(0x5e + 2 * slot, &(offset as u16).to_le_bytes());
     }
 }

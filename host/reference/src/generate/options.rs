@@ -91,7 +91,7 @@ impl Options {
     }
 
     /// Any page length, any of the tables, and a file that is not long. One of
-    /// two has a single table of a few rows.
+    /// two has a single table of a few rows, often the tracks.
     pub fn random(rng: &mut Rng) -> Self {
         if rng.chance(1, 2) {
             Options::random_small(rng)
@@ -101,8 +101,11 @@ impl Options {
     }
 
     fn random_small(rng: &mut Rng) -> Self {
-        let mut rows = [None; 10];
-        rows[rng.index(10)] = Some(1 + rng.below(4) as u32);
+        let table = match rng.chance(1, 4) {
+            true => Table::Tracks,
+            false => rng.pick(&Table::ALL),
+        };
+        let rows = one_table(table, 1 + rng.below(4) as u32);
         Options {
             seed: rng.next_u64(),
             len_page: 512 * rng.pick(&[1, 1, 2, 3]),

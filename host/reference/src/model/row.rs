@@ -67,7 +67,7 @@ impl<'a> Row<'a> {
             Strings::ByteOffset(at) => usize::from(self.bytes[at]),
             Strings::Offsets(at) => usize::from(u16_at(self.bytes, at + 2 * slot as usize)),
         };
-        let text = read_string(self.bytes.get(offset..)?)?;
+        let text = read_string(self.table, slot, self.bytes.get(offset..)?)?;
         Some(Text {
             place: u64::from(self.place) + (offset + text.start) as u64,
             len: text.len as u64,

@@ -215,7 +215,7 @@ impl Session {
     /// Refusals 1 to 4, 8 to 16, 18 and 19.
     ///
     /// ```
-    /// # use sarvoltig_reference::{generate, model::{Session, TextReply}};
+    /// # use sarvoltig_reference::{generate, model::{Encoding, Session, TextReply}};
     /// # let file = generate::demo();
     /// # let mut session = Session::new(file.clone(), vec![0; 8]);
     /// # session.open(file.len() as u64)?;
@@ -223,6 +223,10 @@ impl Session {
     /// #     session.deliver(block, piece)?;
     /// # }
     /// assert!(matches!(session.text(1u8, 0, 0)?, TextReply::Found { len: 5, .. }));
+    ///
+    /// // The recording code of the first track.
+    /// let code = session.text(0u8, 0, 0)?;
+    /// assert!(matches!(code, TextReply::Found { len: 12, encoding: Encoding::Ascii, .. }));
     /// # Ok::<(), sarvoltig_reference::model::Refusal>(())
     /// ```
     pub fn text(&self, table: impl Into<u32>, k: u64, slot: u64) -> Result<TextReply, Refusal> {

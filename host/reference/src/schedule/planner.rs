@@ -492,13 +492,27 @@ impl Planner<'_> {
         self.make(Call::Text { table, k, slot });
     }
 
+    /// A slot that the table has; of tracks often slot 0, which can hold a code.
+    fn good_slot(&mut self, table: u32) -> u64 {
+        let slots = slots(table).max(1);
+        match self.rng.chance(1, 2) {
+            true => 0,
+            false => self.rng.below(slots),
+        }
+    }
+
     fn any_slot(&mut self, table: u32) -> u64 {
-        let slots = Table::of_type(table).map_or(1, Table::slots);
-        let good = self.rng.below(slots.max(1));
+        let slots = slots(table);
+        let good = self.good_slot(table);
         match self.rng.below(8) {
             0 => self.rng.pick(&[slots, slots + 1, u64::MAX]),
             1 => self.with_high_bit(good),
             _ => good,
         }
     }
+}
+
+/// The string slots of a type, 1 if it is none of the ten.
+fn slots(table: u32) -> u64 {
+    Table::of_type(table).map_or(1, Table::slots)
 }

@@ -2,7 +2,7 @@
 
 use sarvoltig_reference::model::{
     entries, index_size, read_string, Encoding, RecordReply, Refusal, Rows, Session, StringText,
-    TextReply,
+    Table, TextReply,
 };
 
 use crate::{opened, whole};
@@ -78,15 +78,30 @@ fn c7_and_c8_counts() {
     assert_eq!(entries(5, 300), 300);
 }
 
+/// Every table with each of its string slots.
+fn all_slots() -> impl Iterator<Item = (Table, u64)> {
+    let slots = |table: Table| (0..table.slots()).map(move |slot| (table, slot));
+    Table::ALL.into_iter().flat_map(slots)
+}
+
+fn ascii(start: usize, len: usize) -> Option<StringText> {
+    Some(StringText {
+        start,
+        len,
+        encoding: Encoding::Ascii,
+    })
+}
+
+fn utf16(len: usize) -> Option<StringText> {
+    Some(StringText {
+        start: 4,
+        len,
+        encoding: Encoding::Utf16Le,
+    })
+}
+
 #[test]
-fn c9_to_c12_and_three_further_strings() {
-    let ascii = |start, len| {
-        Some(StringText {
-            start,
-            len,
-            encoding: Encoding::Ascii,
-        })
-    };
+fn c9_to_c12_and_two_further_strings() {
     let examples: [(&[u8], Option<StringText>); 6] = [
         (&[0x03], ascii(1, 0)),
         (&[0x01], None),
@@ -96,7 +111,9 @@ fn c9_to_c12_and_three_further_strings() {
         (&[0x40, 0x03, 0x00, 0x00], None),
     ];
     for (bytes, text) in examples {
-        assert_eq!(read_string(bytes), text, "{bytes:02x?}");
+        for (table, slot) in all_slots() {
+            assert_eq!(read_string(table, slot, bytes), text, "{bytes:02x?}");
+        }
         let reply = match text {
             Some(text) => Ok(TextReply::Found {
                 place: (512 + 0x28 + 4 + text.start) as u64,
@@ -122,30 +139,127 @@ fn a_file_of_32768_has_one_map_word_and_no_spare_bit() {
 
 #[test]
 fn strings_end_at_or_before_the_index() {
-    assert!(read_string(b"\x05A").is_some());
-    assert!(read_string(b"\x07A").is_none());
-    assert!(read_string(b"\x90\x06\x00\xffA\x00").is_some());
-    assert!(read_string(b"\x90\x06\x00\xffA").is_none());
-    assert!(read_string(b"\x40\x04\x00\x00").is_some());
-    assert!(read_string(b"\x40\x04\x00").is_none());
-    assert!(read_string(b"\x20AAAA").is_none());
-    assert!(read_string(b"").is_none());
+    for (table, slot) in all_slots() {
+        let fits = |bytes: &[u8]| read_string(table, slot, bytes).is_some();
+        assert!(fits(b"\x05A"));
+        assert!(!fits(b"\x07A"));
+        assert!(fits(b"\x90\x06\x00\xffA\x00"));
+        assert!(!fits(b"\x90\x06\x00\xffA"));
+        assert!(fits(b"\x40\x04\x00\x00"));
+        assert!(!fits(b"\x40\x04\x00"));
+        assert!(!fits(b"\x20AAAA"));
+        assert!(!fits(b""));
+    }
 }
 
 #[test]
 fn the_first_byte_decides() {
-    for kind in 0..=0xff {
-        let mut bytes = [0; 200];
-        bytes[..2].copy_from_slice(&[kind, 6]);
-        let text = read_string(&bytes).map(|text| (text.start, text.len, text.encoding));
-        let expected = match kind {
-            0x01 => None,
-            0x40 => Some((4, 2, Encoding::Ascii)),
-            0x90 => Some((4, 2, Encoding::Utf16Le)),
-            odd if odd % 2 == 1 => Some((1, usize::from(odd / 2) - 1, Encoding::Ascii)),
-            _ => None,
-        };
-        assert_eq!(text, expected, "{kind:02x}");
+    for (table, slot) in all_slots() {
+        for kind in 0..=0xff {
+            let mut bytes = [0; 200];
+            bytes[..2].copy_from_slice(&[kind, 6]);
+            let expected = match kind {
+                0x01 => None,
+                0x40 => ascii(4, 2),
+                0x90 => utf16(2),
+                odd if odd % 2 == 1 => ascii(1, usize::from(odd / 2) - 1),
+                _ => None,
+            };
+            assert_eq!(read_string(table, slot, &bytes), expected, "{kind:02x}");
+        }
+    }
+}
+
+/// Strings of kind `90`: the total, the bytes behind the head, and the length
+/// of the text that slot 0 of the tracks reads.
+const CODES: [(u16, &[u8], Option<usize>); 14] = [
+    (5, b"\x03", None),
+    (5, b"\x03\0", None),
+    (6, b"\x03\0", Some(0)),
+    (6, b"\x03A\0", None),
+    (7, b"\x03A\0", Some(1)),
+    (7, b"\x03\0A", Some(0)),
+    (8, b"\x03AB\0", Some(2)),
+    (8, b"\x03A\0\0", Some(1)),
+    (9, b"\x03A\0B\0", Some(1)),
+    (9, b"\x03\x03\xff\x80\0", Some(3)),
+    (9, b"\x03AB\0", None),
+    (8, b"\x03ABCD\0", None),
+    (0x12, b"\x03GBAYE9300106\0", Some(12)),
+    (0x13, b"\x03GBAYE9300106\0\0", Some(12)),
+];
+
+#[test]
+fn recording_codes() {
+    for (total, behind, code) in CODES {
+        let [low, high] = u16::to_le_bytes(total);
+        let bytes = [&[0x90, low, high, 0x07], behind].concat();
+        let inside = usize::from(total) <= bytes.len();
+        for (table, slot) in all_slots() {
+            let expected = match (table, slot) {
+                (Table::Tracks, 0) => code.and_then(|len| ascii(5, len)),
+                _ if inside && total % 2 == 0 => utf16(usize::from(total) - 4),
+                _ => None,
+            };
+            assert_eq!(read_string(table, slot, &bytes), expected, "{bytes:02x?}");
+        }
+    }
+}
+
+/// The total, the first byte behind the head and the kind decide what is a code.
+#[test]
+fn strings_of_slot_0_that_are_no_codes() {
+    let isrc = |bytes: &[u8]| read_string(Table::Tracks, 0, bytes);
+    assert_eq!(isrc(b"\x90\x04\0\0\x03A\0"), utf16(0));
+    assert_eq!(isrc(b"\x90\x03\0\0\x03A\0"), None);
+    assert_eq!(isrc(b"\x40\x08\0\0\x03A\0."), ascii(4, 4));
+    assert_eq!(isrc(b"\x92\x08\0\0\x03A\0."), None);
+    for first in (0..=0xff).filter(|first| *first != 0x03) {
+        assert_eq!(isrc(&[0x90, 8, 0, 3, first, 3, 0x41, 0]), utf16(4));
+        assert_eq!(isrc(&[0x90, 7, 0, 3, first, 3, 0]), None);
+    }
+}
+
+/// A track whose string slots have offset 0, where an empty string stands, but
+/// for these; they lead to `string` behind the fixed part.
+fn one_track(slots: &[usize], string: &[u8]) -> Session {
+    let mut heap = [&[0x03], &[0; 0x87][..], string].concat();
+    for slot in slots {
+        heap[0x5e + 2 * slot] = 0x88;
+    }
+    one_row(0, &heap, 0)
+}
+
+/// A string that slot 0 shares with another slot is read in both ways.
+#[test]
+fn a_code_in_one_slot_is_utf16_in_another() {
+    const PLACE: u64 = 512 + 0x28 + 0x88;
+    let found = |place, len, encoding| {
+        Ok(TextReply::Found {
+            place,
+            len,
+            encoding,
+        })
+    };
+    let even = b"\x90\x08\0\0\x03AB\0";
+    let code = found(PLACE + 5, 2, Encoding::Ascii);
+    let wide = found(PLACE + 4, 4, Encoding::Utf16Le);
+    for other in 1..21 {
+        let both = one_track(&[0, other], even);
+        assert_eq!(both.text(0u8, 0, 0), code);
+        assert_eq!(both.text(0u8, 0, other as u64), wide);
+        let list = [512 + 0x28];
+        assert_eq!(both.text_in(0u8, &list, 0, 0), code);
+        assert_eq!(both.text_in(0u8, &list, 0, other as u64), wide);
+        let odd = b"\x90\x07\0\0\x03A\0";
+        assert_eq!(one_track(&[0, other], odd).record(0u8, 0), refused(15, 1));
+        assert!(one_track(&[0], odd).record(0u8, 0).is_ok());
+        let without_zero = b"\x90\x06\0\0\x03A";
+        assert!(one_track(&[other], without_zero).record(0u8, 0).is_ok());
+        assert_eq!(
+            one_track(&[0, other], without_zero).record(0u8, 0),
+            refused(15, 1)
+        );
     }
 }
 

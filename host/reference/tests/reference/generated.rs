@@ -1,9 +1,13 @@
 //! Generated exports: what they say is there is found, and nothing else counts.
 
+use std::collections::BTreeSet;
+
 use sarvoltig_reference::generate::{
     big, demo, export, Expected, ExpectedRow, ExpectedTable, Export, Large, Options,
 };
-use sarvoltig_reference::model::{RecordReply, Refusal, Rows, Session, Table, Text, TextReply};
+use sarvoltig_reference::model::{
+    entries, index_size, Encoding, RecordReply, Refusal, Rows, Session, Table, Text, TextReply,
+};
 use sarvoltig_reference::rng::Rng;
 
 use crate::{opened, whole};
@@ -138,9 +142,103 @@ fn generated_rows_are_of_every_kind() {
         assert!(some_row(Table::Genres, |file, row| file[place(row) + 4] == head));
     }
     assert!(some_row(Table::Tracks, |_, row| name_offset(row) == 1));
+    for table in [Table::Genres, Table::Artists, Table::Albums] {
+        assert!(some_row(table, |file, row| {
+            row.texts[0].encoding == Encoding::Utf16Le && file[row.texts[0].place as usize] == 0x03
+        }));
+    }
     assert!(some_row(Table::PlaylistEntries, |file, row| {
         let page = place(row) - place(row) % len_page(file);
         (0x01..0x1f).contains(&file[page + 0x23])
+    }));
+}
+
+fn two_bytes(bytes: &[u8], at: usize) -> u16 {
+    u16::from_le_bytes([bytes[at], bytes[at + 1]])
+}
+
+/// The string of slot 0 of a track, by its offset and its total.
+fn isrc_string<'a>(file: &'a [u8], row: &ExpectedRow) -> &'a [u8] {
+    let bytes = &file[row.place as usize..];
+    let string = &bytes[usize::from(two_bytes(bytes, 0x5e))..];
+    match string[0] {
+        0x40 | 0x90 => &string[..usize::from(two_bytes(string, 1))],
+        odd => &string[..usize::from(odd / 2)],
+    }
+}
+
+/// Where the index of a row's page starts.
+fn index_start(file: &[u8], row: &ExpectedRow) -> usize {
+    let page = row.place as usize / len_page(file) * len_page(file);
+    let count = entries(file[page + 0x18], two_bytes(file, page + 0x22));
+    page + len_page(file) - index_size(usize::from(count))
+}
+
+/// A code that was generated.
+struct Code {
+    string: Vec<u8>,
+    text: Vec<u8>,
+    /// Whether it ends where the index starts.
+    at_index: bool,
+}
+
+/// The codes of some random exports.
+fn codes() -> Vec<Code> {
+    let exports = (0..400).map(|seed| export(&Options::random(&mut Rng::new(seed))));
+    let mut codes = Vec::new();
+    for Export { bytes, expected } in exports {
+        let tracks = expected.tables.iter().filter(|t| t.table == Table::Tracks);
+        for row in tracks.flat_map(|table| &table.rows) {
+            let string = isrc_string(&bytes, row);
+            let start = row.texts[0].place as usize - 5;
+            if string[0] == 0x90 && string.get(4) == Some(&0x03) {
+                codes.push(Code {
+                    string: string.to_vec(),
+                    text: row.texts[0].bytes.clone(),
+                    at_index: start + string.len() == index_start(&bytes, row),
+                });
+            }
+        }
+    }
+    codes
+}
+
+#[test]
+fn generated_tracks_have_codes_of_every_kind() {
+    let codes = codes();
+    let some_code = |like: fn(&Code) -> bool| codes.iter().any(like);
+    let totals: BTreeSet<usize> = codes.iter().map(|code| code.string.len()).collect();
+    assert!((6..24).all(|total| totals.contains(&total)), "{totals:?}");
+    assert!(some_code(|code| code.string.len() > 0x1000));
+    assert!(some_code(|code| code.text.is_empty()));
+    assert!(some_code(|code| code.text.contains(&0x03)));
+    assert!(some_code(|code| code.text.iter().any(|byte| *byte > 0x7f)));
+    let behind = |code: &Code| code.string[5 + code.text.len() + 1..].to_vec();
+    assert!(codes.iter().any(|code| behind(code).is_empty()));
+    assert!(codes.iter().any(|code| behind(code).contains(&0)));
+    assert!(codes.iter().filter(|code| code.at_index).count() > 5);
+}
+
+#[test]
+fn generated_tracks_have_other_strings_in_slot_0() {
+    let text_place = |row: &ExpectedRow, slot: usize| row.texts[slot].place;
+    assert!(some_row(Table::Tracks, |file, row| {
+        let string = isrc_string(file, row);
+        string[0] == 0x90 && string.len() > 4 && string[4] != 0x03
+    }));
+    assert!(some_row(Table::Tracks, |file, row| {
+        let behind = file[text_place(row, 0) as usize];
+        isrc_string(file, row).len() == 4
+            && row.texts[0].encoding == Encoding::Utf16Le
+            && behind == 0x03
+    }));
+    assert!(some_row(Table::Tracks, |file, row| {
+        let string = isrc_string(file, row);
+        string[0] == 0x40 && string.get(4) == Some(&0x03)
+    }));
+    assert!(some_row(Table::Tracks, |_, row| {
+        (1..21).any(|slot| text_place(row, slot) + 1 == text_place(row, 0))
+            && row.texts[0].encoding == Encoding::Ascii
     }));
 }
 
@@ -269,4 +367,27 @@ fn the_demo_has_24_tracks_in_three_playlists_of_a_folder() {
         other => panic!("{table:?}: {other:?}"),
     };
     assert_eq!(Table::ALL.map(rows), [24, 5, 8, 6, 3, 6, 8, 4, 24, 6]);
+}
+
+/// The bytes of a string of the demo, if they are ASCII.
+fn ascii_text(session: &Session, k: u64, slot: u64) -> &[u8] {
+    match session.text(Table::Tracks.number(), k, slot) {
+        Ok(TextReply::Found {
+            place,
+            len,
+            encoding: Encoding::Ascii,
+        }) => &session.image()[place as usize..][..len as usize],
+        other => panic!("{other:?}"),
+    }
+}
+
+#[test]
+fn three_of_four_tracks_of_the_demo_have_a_recording_code() {
+    let session = whole(&demo());
+    let code = |k| ascii_text(&session, k, 0);
+    assert_eq!(code(0), b"SENFE0200001");
+    assert_eq!(code(1), b"FROBL0300002");
+    assert_eq!(code(2), b"GBTRF0400003");
+    assert_eq!(code(3), b"");
+    assert_eq!((0..24).filter(|k| code(*k).len() == 12).count(), 18);
 }

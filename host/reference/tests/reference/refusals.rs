@@ -2,8 +2,15 @@
 
 use std::collections::BTreeSet;
 
-use sarvoltig_reference::model::{Delivered, RecordReply, Rows, Session, TextReply, BLOCK_SIZE};
+use sarvoltig_reference::damage::{apply, Kind};
+use sarvoltig_reference::generate::{export, Options};
+use sarvoltig_reference::model::{
+    Delivered, Encoding, RecordReply, Rows, Session, TextReply, BLOCK_SIZE,
+};
+use sarvoltig_reference::rng::Rng;
 use sarvoltig_reference::schedule::{random_run, Answer, Call, Reply, Run};
+
+use crate::whole;
 
 /// The blocks of the image and the words of the map that differ.
 fn differences(before: &Session, after: &Session) -> (Vec<u64>, Vec<u64>) {
@@ -88,4 +95,67 @@ fn calls_from_a_list_reach_every_refusal_that_they_have() {
         BTreeSet::from([1, 2, 3, 4, 8, 9, 12, 13, 14, 15, 18, 19])
     );
     assert!(found > 1000 && waiting > 1000, "{found}, {waiting}");
+}
+
+/// Where a recording code was found: its text starts behind `03`, the first
+/// byte behind the head of a string of kind `90`.
+fn is_code(session: &Session, found: &TextReply) -> bool {
+    match *found {
+        TextReply::Found {
+            place,
+            encoding: Encoding::Ascii,
+            ..
+        } => {
+            let string = (place as usize).saturating_sub(5);
+            matches!(session.image()[string..], [0x90, _, _, _, 0x03, ..])
+        }
+        _ => false,
+    }
+}
+
+#[test]
+fn recording_codes_are_asked_for_in_both_ways() {
+    let (mut asked, mut asked_in) = (0, 0);
+    for seed in 0..500 {
+        let mut run = Run::new(Session::new(Vec::new(), Vec::new()));
+        for call in random_run(seed) {
+            let count = match call {
+                Call::Text { .. } => &mut asked,
+                Call::TextIn { .. } => &mut asked_in,
+                _ => &mut 0,
+            };
+            let reply = call.make(&mut run).map(|answer| answer.reply);
+            if let Some(Ok(Reply::Text(found))) = reply {
+                *count += u64::from(is_code(run.session(), &found));
+            }
+        }
+    }
+    assert!(asked > 50 && asked_in > 100, "{asked}, {asked_in}");
+}
+
+#[test]
+fn damaged_codes_are_refused_or_read() {
+    let mut rows = [None; 10];
+    rows[0] = Some(3);
+    for kind in [Kind::Code, Kind::CodeAtEnd, Kind::StringOfOtherSlot] {
+        let (mut read, mut refused) = (0, 0);
+        for seed in 0..200 {
+            let mut file = export(&Options {
+                seed,
+                len_page: 1024,
+                rows,
+                ..Options::default()
+            })
+            .bytes;
+            apply(kind, &mut file, &mut Rng::new(seed));
+            match whole(&file).rows(0u8, &mut [0; 100]) {
+                Ok(_) => read += 1,
+                Err(refusal) => {
+                    assert_eq!(refusal.number, 15);
+                    refused += 1;
+                }
+            }
+        }
+        assert!(read > 40 && refused > 20, "{kind:?}: {read}, {refused}");
+    }
 }

@@ -1,11 +1,13 @@
 //! `bench`: the library beside something else, in one run: taking in against memcpy, questions and reading from lists
-//! against the reference, beats against the reference and against a pass that allocates nothing.
+//! against the reference, pages of recording codes against the reference and against pages without codes, beats against
+//! the reference and against a pass that allocates nothing.
 
-use sarvoltig::{map_words, Anlz, Beat, Intake, Table, Track, BLOCK};
+use sarvoltig::{map_words, Anlz, Beat, Encoding, Intake, Table, Track, BLOCK};
 use sarvoltig_reference::anlz;
 use sarvoltig_reference::generate;
 use sarvoltig_reference::model::{self, Session};
 use sarvoltig_reference::rng::Rng;
+use sarvoltig_tools::code_page::CodePage;
 use std::hint::black_box;
 use std::ops::Range;
 use std::time::{Duration, Instant};
@@ -280,6 +282,56 @@ fn doubled(file: &[u8]) -> Vec<u8> {
     twice
 }
 
+/// Both readers find the code in the last row.
+fn check_codes(page: CodePage, intake: &Intake, session: &Session) {
+    let last = page.entries() as u64 - 1;
+    let text = intake.text(Table::Tracks, last, Track::ISRC);
+    let text = text.expect("a good page").found().expect("a row");
+    assert_eq!(text.encoding, Encoding::Ascii);
+    assert_eq!(text.bytes.len(), page.code_len());
+    let found = model::TextReply::Found {
+        place: text.place,
+        len: text.bytes.len() as u64,
+        encoding: model::Encoding::Ascii,
+    };
+    assert_eq!(session.text(0u32, last, Track::ISRC), Ok(found));
+}
+
+/// All rows of a page of recording codes: against the reference, and against the page without codes.
+fn codes(what: &str, page: CodePage, runs: usize) {
+    let rows = page.entries();
+    let what = format!(
+        "all rows of {what}, {},{:03} rows",
+        rows / 1000,
+        rows % 1000
+    );
+    let mut list = vec![0; rows];
+    let mut other_list = list.clone();
+    with_export(&page.with_codes(), |intake, session| {
+        check_codes(page, intake, session);
+        let times = fastest(
+            runs,
+            || timed(|| intake.rows_into(Table::Tracks, &mut list).expect("rows")),
+            || timed(|| session.rows(0u32, &mut other_list).expect("rows")),
+        );
+        line(&format!("{what}, against the reference"), times);
+        with_export(&page.without_codes(), |without, _| {
+            let times = fastest(
+                runs,
+                || timed(|| intake.rows_into(Table::Tracks, &mut list).expect("rows")),
+                || {
+                    timed(|| {
+                        without
+                            .rows_into(Table::Tracks, &mut other_list)
+                            .expect("rows")
+                    })
+                },
+            );
+            line(&format!("{what}, against the page without codes"), times);
+        });
+    });
+}
+
 /// Beats of the grid that is asked.
 const BEATS: u32 = 3_000;
 
@@ -409,5 +461,15 @@ fn main() {
     with_export(&doubled(&big), |intake, session| {
         contents(intake, session, "16 MB, 40,000 tracks", 20);
     });
+    codes(
+        "the worst page of recording codes",
+        CodePage::longest_search(),
+        20,
+    );
+    codes(
+        "the page of most rows with a recording code",
+        CodePage::most_rows(),
+        100,
+    );
     beats();
 }

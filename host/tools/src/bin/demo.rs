@@ -1,10 +1,12 @@
 //! `demo FILE [--late N] [--repeated N] [--harsh] [--seed N] [--pause MS] [--tracks N]`: the main job on a terminal.
 //!
 //! The file's blocks arrive out of order, some late and some repeated (N of a hundred). The display shows the blocks
-//! held and the rows known of each table, and at the end the playlists with their tracks. A row once listed is never
-//! taken back: each answer is compared with the one before.
+//! held and the rows known of each table, and at the end the playlists with their tracks, each with its recording code
+//! where it has one. A row once listed is never taken back: each answer is compared with the one before.
 
-use sarvoltig::{map_words, Delivered, Intake, Record, Refusal, Table, Text, Track, Walk, BLOCK};
+use sarvoltig::{
+    map_words, Delivered, Encoding, Intake, Record, Refusal, Table, Text, Track, Walk, BLOCK,
+};
 use sarvoltig_reference::rng::Rng;
 use sarvoltig_tools::failure::Failure;
 use std::collections::{HashMap, HashSet};
@@ -16,6 +18,8 @@ use std::time::Duration;
 const USAGE: &str =
     "usage: demo FILE [--late N] [--repeated N] [--harsh] [--seed N] [--pause MS] [--tracks N]";
 const BAR: usize = 40;
+/// Characters of the widest column of titles. A code behind a longer title is not in line.
+const WIDEST: usize = 40;
 
 /// What the command line asks for.
 struct Options {
@@ -288,16 +292,22 @@ fn entries(intake: &Intake) -> Result<HashMap<u32, Vec<(u32, u32)>>, Refusal> {
     Ok(lists)
 }
 
-/// The title of each track, by its id; the first track's where an id comes twice.
-fn titles<'a>(intake: &'a Intake) -> Result<HashMap<u32, Text<'a>>, Refusal> {
-    let mut titles = HashMap::new();
+/// What is listed of a track.
+struct Listed<'a> {
+    title: Text<'a>,
+    code: Text<'a>,
+}
+
+/// The tracks by their ids; the first where an id comes twice.
+fn tracks<'a>(intake: &'a Intake) -> Result<HashMap<u32, Listed<'a>>, Refusal> {
+    let mut tracks = HashMap::new();
     for row in &intake.rows(Table::Tracks)? {
         if let Record::Track(track) = row.record()? {
-            let title = row.text(Track::TITLE)?;
-            titles.entry(track.id).or_insert(title);
+            let (title, code) = (row.text(Track::TITLE)?, row.text(Track::ISRC)?);
+            tracks.entry(track.id).or_insert(Listed { title, code });
         }
     }
-    Ok(titles)
+    Ok(tracks)
 }
 
 /// The nodes in the order of the menu, each with its level. A folder is opened once, whatever the file says.
@@ -319,10 +329,36 @@ fn menu(nodes: &[Node]) -> Vec<(usize, &Node)> {
     menu
 }
 
+/// A track's title, and its recording code where it has one. A code is never UTF-16.
+fn title_and_code(id: u32, tracks: &HashMap<u32, Listed>) -> (String, Option<String>) {
+    let Some(&Listed { title, code }) = tracks.get(&id) else {
+        return (format!("track {id} is missing"), None);
+    };
+    let has_code = code.encoding == Encoding::Ascii && !code.bytes.is_empty();
+    (printable(title), has_code.then(|| printable(code)))
+}
+
+/// The lines of a playlist's tracks: index, title and recording code, the codes in a column of their own.
+fn track_lines(list: &[(u32, u32)], tracks: &HashMap<u32, Listed>) -> Vec<String> {
+    let lines: Vec<_> = list
+        .iter()
+        .map(|&(index, id)| (index, title_and_code(id, tracks)))
+        .collect();
+    let lengths = lines.iter().map(|(_, (title, _))| title.chars().count());
+    let width = lengths.max().unwrap_or(0).min(WIDEST);
+    lines
+        .into_iter()
+        .map(|(index, (title, code))| match code {
+            Some(code) => format!("{index:>4}  {title:<width$}  {code}"),
+            None => format!("{index:>4}  {title}"),
+        })
+        .collect()
+}
+
 /// Prints the playlists with their tracks, at most so many of each, folders opened out.
 fn playlists(intake: &Intake, most: usize) -> Result<(), Failure> {
     let mut out = io::stdout().lock();
-    let (nodes, entries, titles) = (nodes(intake)?, entries(intake)?, titles(intake)?);
+    let (nodes, entries, tracks) = (nodes(intake)?, entries(intake)?, tracks(intake)?);
     for (level, node) in menu(&nodes) {
         let mark = if node.folder { "/" } else { "" };
         writeln!(out, "{}{}{mark}", "  ".repeat(level), node.name)?;
@@ -331,12 +367,8 @@ fn playlists(intake: &Intake, most: usize) -> Result<(), Failure> {
             .get(&node.id)
             .filter(|_| !node.folder)
             .map_or(&[][..], Vec::as_slice);
-        for (index, id) in list.iter().take(most) {
-            let title = match titles.get(id) {
-                Some(&title) => printable(title),
-                None => format!("track {id} is missing"),
-            };
-            writeln!(out, "{margin}{index:>4}  {title}")?;
+        for line in track_lines(&list[..list.len().min(most)], &tracks) {
+            writeln!(out, "{margin}{line}")?;
         }
         if list.len() > most {
             let more = list.len() - most;

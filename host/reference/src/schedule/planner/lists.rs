@@ -1,6 +1,6 @@
 //! Lists of places, and the calls that read from them.
 
-use super::Planner;
+use super::{slots, Planner};
 use crate::layout::Layout;
 use crate::model::{Rows, Table, PAGE_HEADER};
 use crate::schedule::run::LIST_FILL;
@@ -44,14 +44,13 @@ impl Planner<'_> {
     }
 
     fn ask_element(&mut self, table: u32, i: u64) {
-        let slots = Table::of_type(table).map_or(1, Table::slots);
-        let one_of = if slots == 0 { 16 } else { 2 };
+        let one_of = if slots(table) == 0 { 16 } else { 2 };
         if !self.rng.chance(1, one_of) {
             return self.make(Call::RecordIn { table, i });
         }
         let slot = match self.rng.chance(1, 3) {
             true => self.any_slot(table),
-            false => self.rng.below(slots.max(1)),
+            false => self.good_slot(table),
         };
         self.make(Call::TextIn { table, i, slot });
     }
