@@ -1,6 +1,6 @@
 /*
- * Prints the playlists of a rekordbox export as a tree, with the titles of their tracks and, in brackets, their recording
- * codes where they have one.
+ * Prints the playlists of a rekordbox export as a tree, with the titles of their tracks and, in brackets, their
+ * recording codes where they have one.
  *
  *     playlists EXPORT
  *

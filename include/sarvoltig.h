@@ -71,7 +71,7 @@ enum {
     SARVOLTIG_PAGE_HEADER = 12,   /* a page's header names another page or table: the page */
     SARVOLTIG_ROW_INDEX = 13,     /* a row index does not fit: the page */
     SARVOLTIG_ROW_SHORT = 14,     /* a row does not fit, or an artist row is of no known subtype: the page */
-    SARVOLTIG_TEXT_FAULT = 15,    /* a string is malformed or outside, or a recording code has no zero byte: the page */
+    SARVOLTIG_TEXT_FAULT = 15,    /* a string is malformed or outside, or a code has no zero byte: the page */
     SARVOLTIG_CHAIN_LOOP = 16,    /* a table's pages come back to one before the last */
     SARVOLTIG_LIST_SHORT = 17,    /* the list is shorter than the rows found: the rows found */
     SARVOLTIG_NO_ROW = 18,        /* the table has no such record, the list no such row, or the grid no such beat */
@@ -242,12 +242,12 @@ uint32_t sarvoltig_record(uint64_t len,
  *     65          not found so far: rows, pages and page, as above
  *     1 to 4, 8 to 16, 18, 19      refused
  *
- * Slot 0 of a track, SARVOLTIG_SLOT_ISRC, and no other slot or table, may hold a recording code: a string of kind 90 with a
- * total length of 5 or more and the byte 03 behind its four head bytes. Its text is what stands between the 03 and the first
- * zero byte behind it, with the encoding SARVOLTIG_ASCII. The total length may be odd, and bytes behind the zero byte belong
- * to the string and not to the text. Without a zero byte inside the total length it is refused with 15. As in every text of
- * that encoding, bytes are not tested for ASCII: some may be above 7f. A string that slot 0 shares with another slot is
- * read in both ways, and is refused with 15 unless it is right in both.
+ * Slot 0 of a track, SARVOLTIG_SLOT_ISRC, and no other slot or table, may hold a recording code: a string of kind 90
+ * with a total length of 5 or more and the byte 03 behind its four head bytes. Its text is what stands between the 03
+ * and the first zero byte behind it, with the encoding SARVOLTIG_ASCII. The total length may be odd, and bytes behind
+ * the zero byte belong to the string and not to the text. Without a zero byte inside the total length it is refused with
+ * 15. As in every text of that encoding, bytes are not tested for ASCII: some may be above 7f. A string that slot 0
+ * shares with another slot is read in both ways, and is refused with 15 unless it is right in both.
  */
 uint32_t sarvoltig_text(uint64_t len,
                         const uint8_t *image, size_t image_len,

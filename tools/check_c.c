@@ -258,7 +258,7 @@ static void run_list_waits(void)
     expect(map[0] == 5 && list[0] == 1080, "reading from a list leaves map and list, also when it waits");
 }
 
-/* A string of a track, and what slot 0 and slot 1 answer for it: a refusal, or the text's offset, length and encoding. */
+/* What a slot answers: a refusal, or the text's offset in the string, its length and its encoding. */
 typedef struct {
     uint32_t code;
     uint64_t offset;
@@ -266,6 +266,7 @@ typedef struct {
     uint64_t encoding;
 } Text;
 
+/* Strings of a track, each with the answers of slot 0 and slot 1. */
 static const struct {
     const char *what;
     const char *string; /* zero bytes follow */
@@ -279,7 +280,7 @@ static const struct {
     {"a code with bytes above 7f", "\x90\x09\0\0\x03\x80\x1b\xff", 8, {{0, 5, 3, SARVOLTIG_ASCII}, {15, 0, 0, 0}}},
     {"a code without a zero byte, odd", "\x90\x09\0\0\x03" "AB12", 9, {{15, 0, 0, 0}, {15, 0, 0, 0}}},
     {"a code without a zero byte, even", "\x90\x08\0\0\x03" "AB1", 8, {{15, 0, 0, 0}, {0, 4, 4, SARVOLTIG_UTF16LE}}},
-    {"the mark of a code alone", "\x90\x05\0\0\x03", 5, {{15, 0, 0, 0}, {15, 0, 0, 0}}},
+    {"03 alone", "\x90\x05\0\0\x03", 5, {{15, 0, 0, 0}, {15, 0, 0, 0}}},
     {"an empty text before a 03", "\x90\x04\0\0\x03" "A", 6, {{0, 4, 0, SARVOLTIG_UTF16LE}, {0, 4, 0, SARVOLTIG_UTF16LE}}},
     {"another first byte", "\x90\x08\0\x03" "A\0\x03", 7, {{0, 4, 4, SARVOLTIG_UTF16LE}, {0, 4, 4, SARVOLTIG_UTF16LE}}},
 };
@@ -326,7 +327,7 @@ static void answers_text(const char *what, uint64_t slot, Text expected)
     answers(what, text_in(SARVOLTIG_TRACKS, 1, 0, slot), expected.code, count, first, expected.length, expected.encoding);
 }
 
-/* Each string in slot 0 alone, in slot 1 alone, and in both, where it has to be right in both. */
+/* Each string in slot 0 alone, in slot 1 alone, and in all slots, where it has to be right in slot 0 and in the others. */
 static void run_codes(void)
 {
     size_t i;

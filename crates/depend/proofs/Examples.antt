@@ -62,4 +62,4 @@ unfolding le16 le32 anyFrom isMember linkable headSize wholeSize isInside holdsC
     headerAgrees rowless entries indexSize flagsAt offsetAt present rowStart presentFrom indexFits beforeIndex rowStarts checkRows readPage
     allowedLength spareBit bit checkLengths checkCall blockAt allowedPage allowedTables hasType typeTwice tablesHold headerHolds
     pointersFrom kept pointerAmong chainIn tableChain blockMissing pageHeld pagePart pageNext walk walkFrom askedTable tableWalk rowPart askText
-code-answers = record { behind = refl; last = refl; zeroByte = refl; mark = refl }
+code-answers = record { unchanged = refl; behind = λ _. refl; last = λ _. refl; zeroByte = refl; noCode = refl }

@@ -68,6 +68,14 @@ tracks =
 abbrev pub pastIndex : Bytes
 pastIndex = put tracks 690 (0x02 ∷ [])
 
+-- slot 1 names the string too, of an odd size, so the row is refused
+abbrev pub oddShared : Bytes
+oddShared = put (put tracks 648 (0x88 ∷ [])) 689 (0x0b ∷ [])
+
+-- slot 1 names an odd string of the same bytes, and slot 0 does not
+abbrev pub oddElsewhere : Bytes
+oddElsewhere = put oddShared 646 (0x8c ∷ [])
+
 -- slot 0 of the track
 abbrev pub code : Question
 code = oneText 0 0 0
@@ -155,6 +163,8 @@ examples =
     -- a recording code: head, text, zero byte and the bytes behind it, and not the byte behind the string; of one that ends past the index the head
     yesIn tracks code 688 ∷ yesIn tracks code 694 ∷ yesIn tracks code 695 ∷ yesIn tracks code 697 ∷ noIn tracks code 698 ∷
     yesIn pastIndex code 691 ∷ noIn pastIndex code 693 ∷
+    -- a string of kind `90` and of odd size: in slot 0 all of it, in slot 1 alone its head
+    yesIn oddShared code 698 ∷ yesIn oddElsewhere code 691 ∷ noIn oddElsewhere code 693 ∷
     []
 
 abbrev pub ExamplesHold : List Example → Type 0
@@ -164,9 +174,10 @@ ExamplesHold list = map (λ (e : Example). e .found) list ≡ map (λ (e : Examp
 abbrev pub codeWith : (i byte : ℕ) → Answer (Found TextPlace)
 codeWith i byte = askText 2048 (memory (put tracks i (byte ∷ [])) (all ∷ [])) 0 0 0
 
--- Rule 7.8: a byte behind a code's zero byte changes no answer; the zero byte does, and a byte `03` that is another one
+-- Rule 7.8: no byte behind a code's zero byte changes the answer; another byte in place of the zero byte does, and in place of `03`
 pub record CodeAnswers : Type 0 where
-  pub behind : codeWith 696 0 ≡ given (found (textPlace 693 2 Ascii))
-  pub last : codeWith 697 255 ≡ given (found (textPlace 693 2 Ascii))
+  pub unchanged : codeWith 688 0x90 ≡ given (found (textPlace 693 2 Ascii))
+  pub behind : (byte : ℕ) → codeWith 696 byte ≡ given (found (textPlace 693 2 Ascii))
+  pub last : (byte : ℕ) → codeWith 697 byte ≡ given (found (textPlace 693 2 Ascii))
   pub zeroByte : codeWith 695 1 ≡ refused (fault 15 1)
-  pub mark : codeWith 692 5 ≡ given (found (textPlace 692 6 Utf16))
+  pub noCode : codeWith 692 5 ≡ given (found (textPlace 692 6 Utf16))

@@ -6,14 +6,13 @@ use Rattle.table.specs.Table.{holdsCodes}
 use Rattle.text.specs.Zero.{firstZero}
 use Rattle.text.specs.Code.{isCode, codeLength}
 use Rattle.text.specs.Text.{headSize, wholeSize, isInside, plainText, textIn, readText}
-use Rattle.edges.specs.Cases.{AllHold}
-use Rattle.edges.specs.Codes.{EverySlot, codes, Elsewhere}
+use Rattle.edges.specs.Codes.{EverySlot, InIsrc, Elsewhere}
 
 pub every-slot : EverySlot
 unfolding le16 headSize wholeSize isInside isCode plainText textIn readText
 every-slot table slot = (refl, (refl, (refl, (rw (and-false (holdsCodes table slot)) refl, tt))))
 
-pub codes-hold : AllHold codes
+pub codes-hold : InIsrc
 unfolding le16 holdsCodes firstZero headSize wholeSize isInside isCode codeLength plainText textIn readText
 codes-hold = (refl, (refl, (refl, (refl, (refl, (refl, (refl, (refl, (refl, (refl, (refl, (refl, tt))))))))))))
 

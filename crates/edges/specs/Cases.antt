@@ -61,14 +61,14 @@ abbrev pub encoded : Encoding → Bytes → Outcome
 encoded Ascii string = text string
 encoded Utf16 string = utf16 string
 
-abbrev pub textIn : (part : Bytes) (found : TextAt) → Outcome
-textIn part found = encoded (found .encoding) (take (found .len) (drop (found .place) part))
+abbrev pub textOutcome : (part : Bytes) (found : TextAt) → Outcome
+textOutcome part found = encoded (found .encoding) (take (found .len) (drop (found .place) part))
 
 -- the text of a genre's name, in a row of an id and then the string
 abbrev pub names : (string : Bytes) → Outcome
 names string =
     let row : Bytes = 7 ∷ 0 ∷ 0 ∷ 0 ∷ string in
-    outcome (textIn row) (andThen (checkRow Genres row) (λ _. slotText Genres row 0))
+    outcome (textOutcome row) (andThen (checkRow Genres row) (λ _. slotText Genres row 0))
 
 abbrev pub cases : List Case
 cases =

@@ -52,7 +52,8 @@ good-some table (b ∷ row) e = omega arith
 pub good-fits : (table : Table) (row : Bytes) (fixed : ℕ) (slots : Slots) → checkLayout table row (Known fixed slots) ≡ given tt → fixed ≤ length row
 good-fits table row fixed slots e = on (ltb (length row) fixed) (λ f. absurd (not-refused (rw f at e))) (λ f. ltb-false (length row) fixed f)
 
-good-texts : (table : Table) (row : Bytes) (fixed : ℕ) (slots : Slots) → checkLayout table row (Known fixed slots) ≡ given tt → checkTexts table row slots (slotsIn slots) 0 ≡ given tt
+good-texts : (table : Table) (row : Bytes) (fixed : ℕ) (slots : Slots) → checkLayout table row (Known fixed slots) ≡ given tt
+    → checkTexts table row slots (slotsIn slots) 0 ≡ given tt
 good-texts table row fixed slots e = on (ltb (length row) fixed) (λ f. absurd (not-refused (rw f at e))) (λ f. rw f at e)
 
 -- one of the slots that were checked

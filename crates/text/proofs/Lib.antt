@@ -3,3 +3,4 @@
 pub mod ZeroLoop
 pub mod TextInside
 pub mod TextAgree
+pub mod LongText

@@ -1,15 +1,15 @@
 -- Rules 7.6, 7.15: two parts of one length that agree on a string's relevant bytes have the same string there.
 use mathlib.Core.Path.{_≡_, refl}
-use mathlib.Core.Bool.{true, false, not, _&&_, _||_, and-false}
+use mathlib.Core.Bool.{true, false, not, _||_, and-false}
 use Prim.Native.Nat.{ℕ, _+_, _-_, _<_, _≤_}
 use native.Mathlib.Omega.{arith}
 use lib.ListN.{length}
 use lib.Seq.{ext-getD}
-use lib.Dec.{leb, eqb}
+use lib.Dec.{leb}
 use borrow.Author.Tests.{leb-true, not-false}
 use Rattle.lists.specs.Alias.{Bytes}
 use Rattle.lists.specs.Subslice.{subslice}
-use Rattle.lists.proofs.Choice.{on, cond-agree, or-left, or-right, both-true}
+use Rattle.lists.proofs.Choice.{on, cond-agree, or-right}
 use Rattle.number.specs.Number.{byteAt}
 use Rattle.number.specs.Agree.{Agree, within}
 use Rattle.number.proofs.NumberAgree.{agree-less, within-true, within-less, part-agree, le16-agree}
@@ -24,7 +24,8 @@ unfolding headSize
 head-four first e = rw e
 
 -- parts that agree on a run of bytes have it in common
-run-same : {s t : Bytes} (from size start end : ℕ) → from ≤ start → end ≤ from + size → Agree (within from size) s t → subslice s start end ≡ subslice t start end
+run-same : {s t : Bytes} (from size start end : ℕ) → from ≤ start → end ≤ from + size → Agree (within from size) s t
+    → subslice s start end ≡ subslice t start end
 run-same {s} {t} from size start end h k a =
     let parts : Agree (λ _. true) (subslice s start end) (subslice t start end) = part-agree start (end - start) inside a in
     ext-getD 0 (subslice s start end) (subslice t start end) (parts .long) (λ i _. parts .same i refl)
@@ -46,7 +47,8 @@ module _ (table : Table) (slot : ℕ) where
   whole-byte s at i p q e =
       or-right (within at (headSize (byteAt s at)) i) (or-right (inText (readText table slot s at) i) (rw (p, q, e)))
 
-  short-code : (first whole behind : ℕ) → leb 5 whole ≡ false → isCode table slot first whole behind ≡ false
+  -- fewer than 5 bytes are no code
+  pub short-code : (first whole behind : ℕ) → leb 5 whole ≡ false → isCode table slot first whole behind ≡ false
   unfolding isCode
   short-code first whole behind e = rw (e, and-false (mayBeCode table slot first))
 
@@ -64,18 +66,25 @@ module _ (table : Table) (slot : ℕ) where
     -- a string that may be a code: all of it is the same
     code-agree : (whole : ℕ) → Agree (within at whole) s t → textIn table slot s at (byteAt s at) whole ≡ textIn table slot t at (byteAt s at) whole
     unfolding textIn codeLength
-    code-agree whole b = on (leb 5 whole) long (λ e. rw (short-code (byteAt s at) whole (byteAt s (at + 4)) e, short-code (byteAt s at) whole (byteAt t (at + 4)) e))
+    code-agree whole b = on (leb 5 whole) long (λ e. rw (short-code first whole (byteAt s (at + 4)) e, short-code first whole (byteAt t (at + 4)) e))
       where
-        long : leb 5 whole ≡ true → textIn table slot s at (byteAt s at) whole ≡ textIn table slot t at (byteAt s at) whole
+        first : ℕ
+        first = byteAt s at
+
+        long : leb 5 whole ≡ true → textIn table slot s at first whole ≡ textIn table slot t at first whole
         long e =
             let l = leb-true 5 whole e in
-            rw (b .same (at + 4) (within-true at whole (at + 4) (omega arith) (omega arith)), run-same at whole (at + 5) (at + whole) (omega arith) (omega arith) b)
+            let mark = b .same (at + 4) (within-true at whole (at + 4) (omega arith) (omega arith)) in
+            rw (mark, run-same at whole (at + 5) (at + whole) (omega arith) (omega arith) b)
 
     -- its text, where it lies inside
     in-agree : isInside s at (headSize (byteAt s at)) (wholeSize s at (byteAt s at)) ≡ true
         → textIn table slot s at (byteAt s at) (wholeSize s at (byteAt s at)) ≡ textIn table slot t at (byteAt s at) (wholeSize s at (byteAt s at))
     unfolding textIn isCode
-    in-agree q = on (mayBeCode table slot (byteAt s at)) (λ e. code-agree (wholeSize s at (byteAt s at)) (agree-less (λ i h. whole-byte s at i e q h) a)) (λ e. rw e)
+    in-agree q =
+        on (mayBeCode table slot (byteAt s at))
+        (λ e. code-agree (wholeSize s at (byteAt s at)) (agree-less (λ i h. whole-byte s at i e q h) a))
+        (λ e. rw e)
 
     pub text-agree : readText table slot s at ≡ readText table slot t at
     unfolding readText isInside

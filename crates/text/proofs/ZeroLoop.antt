@@ -5,13 +5,13 @@ use mathlib.Core.Path.{_≡_, refl, sym, _∙_}
 use mathlib.Core.Bool.{cond}
 use mathlib.Core.List.{[], _∷_}
 use mathlib.Core.Option.{Option, none, some}
-use Prim.Native.Nat.{ℕ, suc, _+_, _<_, _≤_}
+use Prim.Native.Nat.{ℕ, _+_, _<_, _≤_}
 use native.Mathlib.Omega.{arith}
 use native.Mathlib.Numerals.{add-one}
 use lib.ListN.{length, drop, getD, drop-of-length-le}
 use lib.Seq.{drop-cons}
 use lib.Dec.{eqb}
-use borrow.Author.Tests.{eq-eqb, ne-eqb}
+use borrow.Author.Tests.{ne-eqb}
 use Rattle.lists.specs.Alias.{Bytes}
 use Rattle.lists.proofs.Choice.{cond-holds}
 use Rattle.text.specs.Zero.{firstZero}
@@ -19,7 +19,8 @@ use Rattle.text.specs.Zero.{firstZero}
 pub record Searching (bytes : Bytes) (i : ℕ) : Type 0 where
   pub left : firstZero bytes 0 ≡ firstZero (drop i bytes) i
 
-step : (bytes : Bytes) (i : ℕ) → i < length bytes → firstZero (drop i bytes) i ≡ cond (eqb (getD bytes i 0) 0) (some i) (firstZero (drop (i + 1) bytes) (i + 1))
+step : (bytes : Bytes) (i : ℕ) → i < length bytes
+    → firstZero (drop i bytes) i ≡ cond (eqb (getD bytes i 0) 0) (some i) (firstZero (drop (i + 1) bytes) (i + 1))
 unfolding firstZero
 step bytes i h = rw (drop-cons bytes i 0 h, add-one)
 

@@ -1,4 +1,4 @@
--- Rule 7.6: the bytes of a string that are relevant, its head and its text.
+-- Rules 7.6, 7.15: the bytes of a string that are relevant, its head and its text, and all of it where it may be a recording code.
 use mathlib.Core.Bool.{Bool, false, _&&_, _||_}
 use Prim.Native.Nat.{ℕ}
 use Rattle.lists.specs.Alias.{Bytes}
@@ -13,7 +13,7 @@ abbrev pub inText : (found : Answer TextAt) (i : ℕ) → Bool
 inText (given text) i = within (text .place) (text .len) i
 inText (refused fault) i = false
 
--- Rule 7.15: where a string may hold a recording code, it is relevant as a whole, as far as rule 6.6 holds.
+-- Rule 7.15: a string that may be a recording code is relevant as a whole, if it ends at or before the index.
 unfoldable pub codeByte : (table : Table) (slot : ℕ) (s : Bytes) (at first i : ℕ) → Bool
 codeByte table slot s at first i =
     mayBeCode table slot first && (isInside s at (headSize first) (wholeSize s at first) && within at (wholeSize s at first) i)

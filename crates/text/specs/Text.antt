@@ -67,7 +67,7 @@ unfoldable pub textIn : (table : Table) (slot : ℕ) (s : Bytes) (at first whole
 textIn table slot s at first whole =
     cond (isCode table slot first whole (byteAt s (at + 4))) (codeText (at + 5) (codeLength s at whole)) (plainText at first whole)
 
--- Rules 6.1, 6.6, then those above.
+-- Rules 6.1 to 6.3, 6.6, then those above.
 abbrev pub textByKind : (table : Table) (slot : ℕ) (s : Bytes) (at first : ℕ) → Answer TextAt
 textByKind table slot s at first =
     refuseIf (not (isShort first || isLong first)) (fault 15 0)

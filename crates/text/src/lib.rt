@@ -1,5 +1,6 @@
 // DeviceSQL strings: where a string's text stands, how long it is, and its encoding.
 ghost use mathlib.Core.Path.{_≡_};
+ghost use mathlib.Core.Bool.{true};
 ghost use Prim.Native.Nat.{_<_, _+_};
 ghost use lib.ListN.{length};
 ghost use Rattle.lists.specs.Subslice.{subslice};
@@ -8,7 +9,7 @@ ghost use Rattle.refusal.specs.Answer.{given};
 ghost use Rattle.text.specs.Zero.{firstZero};
 ghost use Rattle.text.specs.Code.{isCode};
 ghost use Rattle.text.specs.Private.{zeroOf};
-ghost use Rattle.text.specs.Text.{isInside, ifInside, restBehind, codeText, textByKind, readText, textOf};
+ghost use Rattle.text.specs.Text.{isLong, isInside, ifInside, restBehind, codeText, textByKind, readText, textOf};
 use table::Table;
 
 pub enum Encoding {
@@ -61,7 +62,7 @@ fn code(s: &[u8], start: usize, end: usize) -> Text
     }
 }
 
-// Whether a string of whole bytes has its head and ends inside the part.
+// Whether a string of `whole` bytes has its head and ends inside the part.
 fn is_inside(s: &[u8], at: usize, head: usize, whole: usize) -> bool
     requires { ⌜ at < length (now s) ⌝ }
     ensures { λ r. ⌜ r ≡ isInside (now (s .entry)) at head whole ⌝ }
@@ -73,26 +74,48 @@ fn is_inside(s: &[u8], at: usize, head: usize, whole: usize) -> bool
     head <= left && whole <= left
 }
 
-// Whether a `90` string of whole bytes holds a recording code.
+// Whether a `90` string of `whole` bytes is a recording code.
 fn is_code(table: Table, slot: usize, s: &[u8], at: usize, whole: usize) -> bool
     requires { ⌜ at < length (now s) ⌝ }
     ensures { λ r. ⌜ r ≡ isCode table slot 0x90 whole (byteAt (now (s .entry)) (at + 4)) ⌝ }
 {
-    if !table.holds_codes(slot) {
+    if whole < 5 {
         return false;
     }
-    let behind = number::byte_at(s, at + 4);
-    5 <= whole && behind == 0x03
+    table.holds_codes(slot) && number::byte_at(s, at + 4) == 0x03
 }
 
-// A string of kind `90`.
-fn wide(table: Table, slot: usize, s: &[u8], at: usize) -> Text
+// A short string of `whole` bytes.
+fn short(s: &[u8], at: usize, whole: usize) -> Text
     requires { ⌜ at < length (now s) ⌝ }
-    ensures { λ r. ⌜ textOf r ≡ textByKind table slot (now (s .entry)) at 0x90 ⌝ }
+    ensures { λ r. ⌜ textOf r ≡ ifInside (now (s .entry)) at 1 whole (given (restBehind at 1 whole Encoding.Ascii)) ⌝ }
+{
+    if is_inside(s, at, 1, whole) {
+        Text::At {
+            place: at + 1,
+            len: whole - 1,
+            encoding: Encoding::Ascii,
+        }
+    } else {
+        Text::Malformed
+    }
+}
+
+// A long string: kind `40` or `90`.
+fn long(table: Table, slot: usize, s: &[u8], at: usize, first: u8) -> Text
+    requires { ⌜ (at < length (now s)) × (isLong first ≡ true) ⌝ }
+    ensures { λ r. ⌜ textOf r ≡ textByKind table slot (now (s .entry)) at first ⌝ }
 {
     let whole = number::u16_at(s, at + 1) as usize;
     if !is_inside(s, at, 4, whole) {
         return Text::Malformed;
+    }
+    if first == 0x40 {
+        return Text::At {
+            place: at + 4,
+            len: whole - 4,
+            encoding: Encoding::Ascii,
+        };
     }
     if is_code(table, slot, s, at, whole) {
         return code(s, at + 5, at + whole);
@@ -107,22 +130,6 @@ fn wide(table: Table, slot: usize, s: &[u8], at: usize) -> Text
     }
 }
 
-// An ASCII string of whole bytes: the rest behind its head.
-fn ascii(s: &[u8], at: usize, head: usize, whole: usize) -> Text
-    requires { ⌜ (at < length (now s)) × (head < 5) ⌝ }
-    ensures { λ r. ⌜ textOf r ≡ ifInside (now (s .entry)) at head whole (given (restBehind at head whole Encoding.Ascii)) ⌝ }
-{
-    if is_inside(s, at, head, whole) {
-        Text::At {
-            place: at + head,
-            len: whole - head,
-            encoding: Encoding::Ascii,
-        }
-    } else {
-        Text::Malformed
-    }
-}
-
 // The string at an offset of a row's part, which ends where the row index begins, in this slot of this table.
 pub fn read(table: Table, slot: usize, s: &[u8], at: usize) -> Text
     ensures { λ r. ⌜ textOf r ≡ readText table slot (now (s .entry)) at ⌝ }
@@ -132,11 +139,11 @@ pub fn read(table: Table, slot: usize, s: &[u8], at: usize) -> Text
     }
     let first = number::byte_at(s, at);
     match first {
-        0x40 => ascii(s, at, 4, number::u16_at(s, at + 1) as usize),
-        0x90 => wide(table, slot, s, at),
+        0x40 => long(table, slot, s, at, first),
+        0x90 => long(table, slot, s, at, first),
         _ => {
             if first % 2 == 1 {
-                ascii(s, at, 1, (first / 2) as usize)
+                short(s, at, (first / 2) as usize)
             } else {
                 Text::Malformed
             }

@@ -99,10 +99,10 @@ pub struct Track {
 impl Track {
     /// The string slot of the recording code, which is a text like others; empty where a track has none.
     ///
-    /// In this slot alone a string of kind `90` may hold a code: `03`, the code and a zero byte behind the four head
-    /// bytes. Its text is the code without the two, of encoding [`Ascii`](crate::Encoding::Ascii). Its bytes are not
-    /// tested for ASCII. Without the zero byte it is refused with 15. A string of kind `90` with another first byte is
-    /// UTF-16, as in every slot.
+    /// In this slot alone a string of kind `90` may be a code: behind its four head bytes stand `03`, the code and a
+    /// zero byte, and any bytes may follow. Its text is what stands between the two, of encoding
+    /// [`Ascii`](crate::Encoding::Ascii); its bytes are not tested for ASCII. Without the zero byte it is refused with
+    /// 15. A string of kind `90` with another byte than `03` behind its head is UTF-16, as in every slot.
     ///
     /// ```
     /// # use sarvoltig::*;
@@ -113,9 +113,9 @@ impl Track {
     /// # for (number, piece) in (0..).zip(file.chunks(BLOCK)) {
     /// #     intake.deliver(number, piece)?;
     /// # }
-    /// for track in &intake.rows(Table::Tracks)? {
-    ///     println!("{}  {}", track.text(Track::TITLE)?, track.text(Track::ISRC)?);
-    /// }
+    /// let tracks = intake.rows(Table::Tracks)?;
+    /// let first = tracks.get(0).ok_or("no track")?;
+    /// assert_eq!(first.text(Track::ISRC)?.to_string(), "SENFE0200001");
     /// # Ok::<(), Box<dyn std::error::Error>>(())
     /// ```
     pub const ISRC: u64 = 0;

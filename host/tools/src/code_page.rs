@@ -10,8 +10,8 @@ const FIXED: usize = 0x88;
 const HEAD: usize = 5;
 
 /// A page of 32,768 bytes of which every entry of the index names one row, at the start of the heap. Slot 0 of the row
-/// names a string of kind `90` that stands behind the fixed part and ends where the index begins: a recording code whose
-/// only zero byte is its last. The other slots name an empty string, the row's first byte.
+/// names a string of kind `90` that stands behind the fixed part and ends where the index begins: a recording code
+/// whose only zero byte is its last. The other slots name an empty string, the row's first byte.
 ///
 /// A code that overlaps the fixed part could begin at most 44 bytes earlier.
 #[derive(Clone, Copy, Debug, PartialEq, Eq)]

@@ -1,5 +1,5 @@
 //! Tools over the proved reader: calls made on it, their replay from a text, their comparison with the reference, pages
-//! that take it long, and an ANLZ file on a terminal.
+//! that it takes long to read, and an ANLZ file on a terminal.
 
 #![forbid(unsafe_code)]
 #![deny(missing_docs)]

@@ -16,10 +16,14 @@ enum-told : tie.Need-enum-told
 enum-told c = search needs
 
 returns : tie.Need-returns
-returns c = let found = c .before .before .before in rw (← found .before .subslice .ensures, ← found .first-zero .ensures, c .before .len .given .1)
+returns c =
+    let found = c .before .before .before in
+    rw (← found .before .subslice .ensures, ← found .first-zero .ensures, c .before .len .given .1)
 
 returns-2 : tie.Need-returns-2
-returns-2 c = let found = c .before .before in rw (← found .before .subslice .ensures, ← found .first-zero .ensures, c .enum-told .given .1)
+returns-2 c =
+    let found = c .before .before in
+    rw (← found .before .subslice .ensures, ← found .first-zero .ensures, c .enum-told .given .1)
 
 pub code-spec : {M : Type 1} → statement M
 code-spec =

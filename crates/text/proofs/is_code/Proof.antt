@@ -1,17 +1,18 @@
-use borrow.Author.Tests.{not-true, not-false}
 -- `text::is_code` meets its contract: its tests are those of `isCode` for kind `90`.
+use mathlib.Core.Path.{sym}
+use borrow.Author.Needs.{needs}
+use borrow.Author.Tests.{lt-leb}
 use Rattle.lists.proofs.Choice.{tests}
 use Rattle.text.specs.Code.{isCode}
-use borrow.Author.Needs.{needs}
+use Rattle.text.proofs.TextAgree.{short-code}
 use Rattle.text.proofs.is_code.Statement.{statement}
 use Rattle.text.proofs.is_code.Tie as tie
 
+returns : tie.Need-returns
+returns c = sym (short-code _ _ _ _ _ (lt-leb _ _ (c .if1 .taken)))
+
 holds-codes-requires : tie.Need-holds-codes-requires
 holds-codes-requires c κs = search needs
-
-returns : tie.Need-returns
-unfolding isCode
-returns c = rw (← c .before .holds-codes .ensures, not-true (c .before .holds-codes .result) (c .if1 .taken))
 
 add-byte-at : tie.Need-add-byte-at
 add-byte-at c = search needs
@@ -21,13 +22,15 @@ byte-at-requires c κs = search needs
 
 returns-2 : tie.Need-returns-2
 unfolding isCode
-returns-2 c = let asked = c .before .before .before .holds-codes in search (tests, ← asked .ensures, not-false (asked .result) (c .before .before .if1 .left), ← c .before .byte-at .ensures)
+returns-2 c =
+    let asked = c .before .before in
+    search (tests, ← asked .holds-codes .ensures, c .before .if2 .taken, ← c .byte-at .ensures)
 
 returns-3 : tie.Need-returns-3
 unfolding isCode
-returns-3 c = let asked = c .before .before .before .holds-codes in search (tests, ← asked .ensures, not-false (asked .result) (c .before .before .if1 .left))
+returns-3 c = rw (← c .before .holds-codes .ensures, c .if2 .left)
 
 pub is-code-spec : {M : Type 1} → statement M
 is-code-spec =
     tie.close
-    (tie.spec holds-codes-requires returns add-byte-at byte-at-requires returns-2 returns-3)
+    (tie.spec returns holds-codes-requires add-byte-at byte-at-requires returns-2 returns-3)

@@ -1,7 +1,7 @@
 -- `text::is_inside` meets its contract: its tests are those of `isInside`.
+use borrow.Author.Needs.{needs}
 use Rattle.lists.proofs.Choice.{tests}
 use Rattle.text.specs.Text.{isInside}
-use borrow.Author.Needs.{needs}
 use Rattle.text.proofs.is_inside.Statement.{statement}
 use Rattle.text.proofs.is_inside.Tie as tie
 

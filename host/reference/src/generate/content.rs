@@ -278,7 +278,8 @@ impl Text {
     }
 }
 
-/// Whether strings of this slot may be recording codes.
+/// Whether strings of this slot may be recording codes. The reader has a test of its own, so that a misreading there
+/// leaves the exports as they are.
 fn has_codes(table: Table, slot: u64) -> bool {
     table == Table::Tracks && slot == 0
 }

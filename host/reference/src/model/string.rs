@@ -105,7 +105,7 @@ fn text_to_the_end(string: &[u8], start: usize, encoding: Encoding) -> Option<St
 }
 
 /// The text of a recording code: from the byte behind its mark up to the first
-/// zero byte of the string, which has to be there (rule 6.11).
+/// zero byte of the string, which has to be there (rule 6.12).
 fn code_text(string: &[u8]) -> Option<StringText> {
     let start = LONG_HEAD + 1;
     let len = string[start..].iter().position(|byte| *byte == 0)?;
