@@ -4,7 +4,7 @@ ghost use mathlib.Core.Path.{_≡_};
 ghost use Prim.Native.Nat.{_+_, _*_};
 ghost use Rattle.number.specs.Number.{le16};
 ghost use Rattle.text.specs.Text.{textOf};
-ghost use Rattle.row.specs.Layout.{rowLayout, artistLayout, slotsIn, slotStart};
+ghost use Rattle.row.specs.Layout.{rowLayout, artistLayout, slotsIn};
 ghost use Rattle.row.specs.Check.{checkTexts, checkRow, checkOf};
 ghost use Rattle.row.specs.Record.{trackNumbers, readRecord, trackOf, recordOf};
 ghost use Rattle.row.specs.Slot.{textInSlot, slotText};
@@ -118,18 +118,6 @@ impl Slots {
             Slots::WordOffsets(count, _) => count,
         }
     }
-
-    // Where the string of a slot starts, counted from the row's start.
-    fn start(self, row: &[u8], slot: u8) -> usize
-        ensures { λ r. ⌜ r ≡ slotStart self (now (row .entry)) slot ⌝ }
-    {
-        match self {
-            Slots::Nothing => 0,
-            Slots::Inline(at) => at as usize,
-            Slots::ByteOffset(at) => number::byte_at(row, at as usize) as usize,
-            Slots::WordOffsets(_, at) => word_start(row, at, slot),
-        }
-    }
 }
 
 fn artist_layout(row: &[u8]) -> Layout
@@ -146,15 +134,21 @@ fn artist_layout(row: &[u8]) -> Layout
     }
 }
 
-// The string of a slot: every string is read here.
+// The string of a slot. Every string is read here.
 fn text_in_slot(table: Table, row: &[u8], slots: Slots, slot: usize) -> Text
     ensures { λ r. ⌜ textOf r ≡ textInSlot table (now (row .entry)) slots slot ⌝ }
 {
     let count = slots.count() as usize;
-    if slot < count {
-        text::read(table, slot, row, slots.start(row, slot as u8))
-    } else {
-        Text::Malformed
+    if count <= slot {
+        return Text::Malformed;
+    }
+    match slots {
+        Slots::Nothing => Text::Malformed,
+        Slots::Inline(at) => text::read(table, slot, row, at as usize),
+        Slots::ByteOffset(at) => {
+            text::read(table, slot, row, number::byte_at(row, at as usize) as usize)
+        }
+        Slots::WordOffsets(_, at) => text::read(table, slot, row, word_start(row, at, slot as u8)),
     }
 }
 

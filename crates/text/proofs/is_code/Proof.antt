@@ -1,5 +1,6 @@
 -- `text::is_code` meets its contract: its tests are those of `isCode` for kind `90`.
 use mathlib.Core.Path.{sym}
+use native.Mathlib.Omega.{arith}
 use borrow.Author.Needs.{needs}
 use borrow.Author.Tests.{lt-leb}
 use Rattle.lists.proofs.Choice.{tests}
@@ -9,7 +10,7 @@ use Rattle.text.proofs.is_code.Statement.{statement}
 use Rattle.text.proofs.is_code.Tie as tie
 
 returns : tie.Need-returns
-returns c = sym (short-code _ _ _ _ _ (lt-leb _ _ (c .if1 .taken)))
+returns c = sym (short-code _ _ _ _ _ (lt-leb 5 (c .before .before .args .whole) (omega (arith, c .if1 .taken))))
 
 holds-codes-requires : tie.Need-holds-codes-requires
 holds-codes-requires c κs = search needs
