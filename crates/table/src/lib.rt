@@ -80,6 +80,17 @@ impl Table {
     pub fn holds_codes(self, slot: usize) -> bool
         ensures { λ r. ⌜ r ≡ holdsCodes self slot ⌝ }
     {
-        self.number() == 0 && slot == 0
+        match self {
+            Table::Tracks => slot == 0,
+            Table::Genres => false,
+            Table::Artists => false,
+            Table::Albums => false,
+            Table::Labels => false,
+            Table::Keys => false,
+            Table::Colors => false,
+            Table::PlaylistTree => false,
+            Table::PlaylistEntries => false,
+            Table::Artwork => false,
+        }
     }
 }
