@@ -52,7 +52,7 @@ ifInside s at head whole text = refuseIf (not (isInside s at head whole)) (fault
 abbrev pub restBehind : (at head whole : ℕ) (encoding : Encoding) → TextAt
 restBehind at head whole encoding = record { place = at + head; len = whole - head; encoding = encoding }
 
--- Rule 6.5: UTF-16 has an even size.
+-- Rules 6.2 to 6.5: the rest behind the head, of an even size if it is UTF-16.
 unfoldable pub plainText : (at first whole : ℕ) → Answer TextAt
 plainText at first whole =
     refuseIf (eqb first 0x90 && eqb (whole % 2) 1) (fault 15 0) (given (restBehind at (headSize first) whole (encodingIn first)))
