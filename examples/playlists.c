@@ -4,9 +4,9 @@
  *
  *     playlists EXPORT
  *
- * The file is taken in block by block, in a shuffled order, as it may come over a network. Each table is walked for the
- * list of its rows, and then every row is read from that list. What the library refuses ends the program with a message and
- * status 1.
+ * The file's blocks are delivered in packets of up to 64, in a shuffled order, as they may come over a network. Each table is
+ * walked for the list of its rows, and then every row is read from that list. What the library refuses ends the program with
+ * a message and status 1.
  */
 #include <errno.h>
 #include <inttypes.h>
@@ -18,7 +18,7 @@
 
 #include "sarvoltig.h"
 
-enum { DEEPEST = 64 };
+enum { DEEPEST = 64, PACKET = 64 };
 
 /* An opened intake: the file's length, and the memory that every call takes with it. */
 typedef struct {
@@ -27,6 +27,13 @@ typedef struct {
     uint64_t *map;
     size_t map_len;
 } Intake;
+
+/* Blocks that are fetched together: their numbers, and their bytes end to end. */
+typedef struct {
+    size_t count;
+    uint64_t blocks[PACKET];
+    uint8_t pieces[PACKET * SARVOLTIG_BLOCK];
+} Packet;
 
 /* The rows of a table: the list of their places. */
 typedef struct {
@@ -75,7 +82,7 @@ static const char *const reasons[] = {
     "the map is too short",
     "the map has a bit behind the last block",
     "there is no such block",
-    "the piece is not 512 bytes",
+    "there are not 512 bytes for each block",
     "the block is held with other bytes",
     "there is no such table type",
     "the file header is broken",
@@ -86,7 +93,7 @@ static const char *const reasons[] = {
     "a row does not fit, on page",
     "a string is malformed or outside, on page",
     "the table's pages come back to one before the last",
-    "the list is too short for the rows found:",
+    "the list is too short for the rows or blocks, which are",
     "there is no such record",
     "there is no such string slot",
 };
@@ -171,11 +178,47 @@ static uint32_t *shuffled(size_t count)
     return order;
 }
 
+/* Fetches the blocks of these numbers, as many as a packet takes. */
+static void fetch(FILE *file, const char *path, const uint32_t *numbers, size_t count, Packet *packet)
+{
+    size_t i;
+
+    packet->count = count < PACKET ? count : PACKET;
+    for (i = 0; i < packet->count; i++) {
+        uint8_t *piece = packet->pieces + i * SARVOLTIG_BLOCK;
+
+        packet->blocks[i] = numbers[i];
+        if (fseek(file, (long)numbers[i] * SARVOLTIG_BLOCK, SEEK_SET) != 0 || fread(piece, SARVOLTIG_BLOCK, 1, file) != 1) {
+            fail("%s: block %" PRIu32 " cannot be read", path, numbers[i]);
+        }
+    }
+}
+
+/* Delivers a packet. It may be refused whole, and each of its blocks may be. */
+static void deliver(const Intake *intake, const char *path, const Packet *packet)
+{
+    uint64_t result[SARVOLTIG_RESULT];
+    uint32_t codes[PACKET];
+    uint32_t code = sarvoltig_packet(intake->len, intake->image, (size_t)intake->len, intake->map, intake->map_len,
+                                     packet->blocks, packet->count, packet->pieces, packet->count * SARVOLTIG_BLOCK, codes,
+                                     PACKET, result, SARVOLTIG_RESULT);
+    size_t i;
+
+    if (code != SARVOLTIG_DONE) {
+        refuse(path, code, result);
+    }
+    for (i = 0; i < packet->count; i++) {
+        if (codes[i] != SARVOLTIG_DONE && codes[i] != SARVOLTIG_SAME) {
+            refuse(path, codes[i], result);
+        }
+    }
+}
+
 /* Takes in a file: opens an intake for its length, and delivers its blocks. */
 static Intake take_in(FILE *file, const char *path)
 {
+    static Packet packet;
     uint64_t result[SARVOLTIG_RESULT];
-    uint8_t piece[SARVOLTIG_BLOCK];
     Intake intake;
     uint32_t *order;
     uint32_t code;
@@ -192,15 +235,9 @@ static Intake take_in(FILE *file, const char *path)
     }
     blocks = (size_t)result[0];
     order = shuffled(blocks);
-    for (i = 0; i < blocks; i++) {
-        if (fseek(file, (long)order[i] * SARVOLTIG_BLOCK, SEEK_SET) != 0 || fread(piece, sizeof piece, 1, file) != 1) {
-            fail("%s: block %" PRIu32 " cannot be read", path, order[i]);
-        }
-        code = sarvoltig_deliver(intake.len, intake.image, (size_t)intake.len, intake.map, intake.map_len, order[i], piece,
-                                 sizeof piece, result, SARVOLTIG_RESULT);
-        if (code != SARVOLTIG_DONE) {
-            refuse(path, code, result);
-        }
+    for (i = 0; i < blocks; i += packet.count) {
+        fetch(file, path, order + i, blocks - i, &packet);
+        deliver(&intake, path, &packet);
     }
     free(order);
     return intake;

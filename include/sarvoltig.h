@@ -10,10 +10,12 @@
  *     code        answer                                           values
  *     0           SARVOLTIG_DONE                                   those of the function, below
  *     1 to 63     refused, by its number (docs/RULES.md, 2, 14)    what the refusal carries, 0 where it carries nothing
- *     64          SARVOLTIG_SAME (deliveries)                      those of the function
+ *     64          SARVOLTIG_SAME (deliveries, codes)               those of the function
  *     65          SARVOLTIG_WAITING (questions, lists)             rows found, pages walked, page that is waited for
  *
- * A refusal changes no memory but the result. sarvoltig_rows, sarvoltig_record and sarvoltig_text walk the table's pages
+ * Blocks that arrive together go in by one call, sarvoltig_packet, which writes a code for each of them to a slice, codes.
+ *
+ * A refused call changes no memory but the result. sarvoltig_rows, sarvoltig_record and sarvoltig_text walk the table's pages
  * from the first, so their time grows with the table. To read many rows, call sarvoltig_rows once and read them from its
  * list with sarvoltig_record_in and sarvoltig_text_in, which look at one page.
  *
@@ -50,8 +52,8 @@ enum {
 
 /* Codes. */
 enum {
-    SARVOLTIG_DONE = 0, /* open, new, all pages walked, found, or counted */
-    SARVOLTIG_SAME = 64,
+    SARVOLTIG_DONE = 0,  /* open, new, a packet taken, all pages walked, found, or counted */
+    SARVOLTIG_SAME = 64, /* the block was held with the same bytes */
     SARVOLTIG_WAITING = 65
 };
 
@@ -62,7 +64,7 @@ enum {
     SARVOLTIG_MAP_SHORT = 3,      /* the map has fewer than SARVOLTIG_MAP_WORDS(len) words */
     SARVOLTIG_MAP_SPARE = 4,      /* a bit behind the last block is set in a word in use */
     SARVOLTIG_BLOCK_NUMBER = 5,   /* the file has no such block */
-    SARVOLTIG_PIECE_SIZE = 6,     /* the piece is not 512 bytes */
+    SARVOLTIG_PIECE_SIZE = 6,     /* the piece is not 512 bytes, or those of a packet are not 512 for each block */
     SARVOLTIG_BLOCK_DIFFERS = 7,  /* the block is held with other bytes, which stay */
     SARVOLTIG_TABLE_TYPE = 8,     /* the table is not one of the ten */
     SARVOLTIG_FILE_HEADER = 9,    /* the file header is broken */
@@ -73,7 +75,7 @@ enum {
     SARVOLTIG_ROW_SHORT = 14,     /* a row does not fit, or an artist row is of no known subtype: the page */
     SARVOLTIG_TEXT_FAULT = 15,    /* a string is malformed or outside, or a code has no zero byte: the page */
     SARVOLTIG_CHAIN_LOOP = 16,    /* a table's pages come back to one before the last */
-    SARVOLTIG_LIST_SHORT = 17,    /* the list is shorter than the rows found: the rows found */
+    SARVOLTIG_LIST_SHORT = 17,    /* the list is shorter than the rows found, or codes than the packet: the rows or blocks */
     SARVOLTIG_NO_ROW = 18,        /* the table has no such record, the list no such row, or the grid no such beat */
     SARVOLTIG_NO_SLOT = 19,       /* the table's records have no such string slot */
     SARVOLTIG_ANLZ_HEADER = 20,   /* the header of an ANLZ file is broken, or len_file is not the file's length */
@@ -206,6 +208,42 @@ uint32_t sarvoltig_deliver(uint64_t len,
                            uint64_t block,
                            const uint8_t *piece, size_t piece_len,
                            uint64_t *result, size_t result_len);
+
+/*
+ * Delivers a packet, any number of blocks in one call: block blocks[i] with the 512 bytes of pieces from i * 512 on. Image
+ * and map become what sarvoltig_deliver makes of them for one block after the other, and codes[i] the code that it gives.
+ *
+ *     0           the number of blocks held after the packet
+ *     1 to 4      refused
+ *     6           refused: pieces_len is not blocks_len * 512
+ *     17          refused: codes_len is below blocks_len, which is carried
+ *
+ * A refused packet brings no block, and codes stays. Otherwise each block has its code, and codes behind them stays:
+ *
+ *     0           new
+ *     64          the block was held with the same bytes, be it from earlier in the packet
+ *     5, 7        this block is refused, and none of the others for it
+ *
+ * The blocks held are counted once for the whole packet, not for each block. For a fetcher that gets up to 64 blocks:
+ *
+ *     uint64_t blocks[64];
+ *     uint8_t pieces[64 * SARVOLTIG_BLOCK];
+ *     uint32_t codes[64];
+ *     size_t count = fetch(blocks, pieces);
+ *     uint32_t code = sarvoltig_packet(len, image, image_len, map, map_len, blocks, count,
+ *                                      pieces, count * SARVOLTIG_BLOCK, codes, 64, result, SARVOLTIG_RESULT);
+ *
+ *     for (size_t i = 0; code == SARVOLTIG_DONE && i < count; i++)
+ *         if (codes[i] != SARVOLTIG_DONE && codes[i] != SARVOLTIG_SAME)
+ *             report(blocks[i], codes[i]);
+ */
+uint32_t sarvoltig_packet(uint64_t len,
+                          uint8_t *image, size_t image_len,
+                          uint64_t *map, size_t map_len,
+                          const uint64_t *blocks, size_t blocks_len,
+                          const uint8_t *pieces, size_t pieces_len,
+                          uint32_t *codes, size_t codes_len,
+                          uint64_t *result, size_t result_len);
 
 /*
  * Asks for all rows of a table. A row's place is the byte offset in the image where it starts. The places are written to

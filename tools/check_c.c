@@ -1,7 +1,7 @@
 /*
- * Runs case D (rule 9.11), a track with a recording code and a small ANLZ file through the C interface. Every slice that is
- * written has guard elements behind it: each call has to give the code and the values of the rules, and to leave everything
- * else as it was.
+ * Runs case D (rule 9.11), block by block and in packets, a track with a recording code and a small ANLZ file through the C
+ * interface. Every slice that is written has guard elements behind it: each call has to give the code and the values of the
+ * rules, and to leave everything else as it was.
  */
 #include <inttypes.h>
 #include <stdint.h>
@@ -12,6 +12,9 @@
 
 enum { LEN = 1536, ROWS = 4, GUARD = 4 };
 
+/* The most blocks of a packet, and its bytes, with one more that a packet may be wrong by. */
+enum { PACKET = 8, PACKET_BYTES = PACKET * SARVOLTIG_BLOCK + 1 };
+
 /* The track of an export of one track: where its row starts, the offset of a string in it, and the string's place. */
 enum { TRACK = 512 + 0x28, STRING = 0x88, STRING_PLACE = TRACK + STRING };
 
@@ -21,6 +24,7 @@ enum { ANLZ_LEN = 0x70, UNKNOWN = 0x1c, GRID = 0x28, BEATS = 0x40, BEHIND = 0x58
 static uint8_t image[LEN + GUARD];
 static uint64_t map[1 + GUARD];
 static uint32_t list[ROWS + GUARD];
+static uint32_t codes[PACKET + GUARD];
 static uint64_t result[SARVOLTIG_RESULT + GUARD];
 static uint8_t file[LEN];
 static uint8_t anlz[ANLZ_LEN];
@@ -32,6 +36,7 @@ static void fill(void)
     memset(image, 0xa5, sizeof image);
     memset(map, 0xa5, sizeof map);
     memset(list, 0xa5, sizeof list);
+    memset(codes, 0xa5, sizeof codes);
 }
 
 static void expect(int holds, const char *what)
@@ -103,6 +108,48 @@ static void make_file(void)
 static uint32_t deliver(uint64_t block, const uint8_t *piece, size_t piece_len)
 {
     return sarvoltig_deliver(LEN, image, LEN, map, 1, block, piece, piece_len, clear(), SARVOLTIG_RESULT);
+}
+
+/* A packet: the numbers of its blocks, and the block of the file whose bytes each brings. */
+typedef struct {
+    size_t count;
+    uint64_t blocks[PACKET];
+    size_t brings[PACKET];
+} Packet;
+
+/* The pieces of a packet, end to end. */
+static const uint8_t *pieces_of(const Packet *p)
+{
+    static uint8_t pieces[PACKET_BYTES];
+    size_t i;
+
+    for (i = 0; i < p->count; i++) {
+        memcpy(pieces + 512 * i, file + 512 * p->brings[i], 512);
+    }
+    return pieces;
+}
+
+/* Delivers a packet of so many bytes, with a slice of so many codes. */
+static uint32_t packet(const Packet *p, size_t pieces_len, size_t codes_len)
+{
+    memset(codes, 0xa5, sizeof codes);
+    return sarvoltig_packet(LEN, image, LEN, map, 1, p->blocks, p->count, pieces_of(p), pieces_len, codes, codes_len, clear(),
+                            SARVOLTIG_RESULT);
+}
+
+/* The codes of a packet's blocks; what stands behind them is as before the call. */
+static void has_codes(const char *what, size_t count, const uint32_t *expected)
+{
+    size_t i;
+
+    for (i = 0; i < sizeof codes / sizeof codes[0]; i++) {
+        uint32_t code = i < count ? expected[i] : 0xa5a5a5a5u;
+
+        if (codes[i] != code) {
+            fprintf(stderr, "check_c: %s: code %u is %" PRIu32 ", not %" PRIu32 "\n", what, (unsigned)i, codes[i], code);
+            failures++;
+        }
+    }
 }
 
 static uint32_t rows(uint32_t table, size_t length)
@@ -256,6 +303,88 @@ static void run_list_waits(void)
     answers("text in a list with page 1 missing", text_in(SARVOLTIG_GENRES, ROWS, 0, 0), SARVOLTIG_DONE, 3, 1085, 4,
             SARVOLTIG_ASCII);
     expect(map[0] == 5 && list[0] == 1080, "reading from a list leaves map and list, also when it waits");
+}
+
+/* A packet that is refused whole: one value, and image, map and codes as before. */
+static void refuses(const char *what, uint32_t code, uint32_t expected, uint64_t carries, uint64_t word)
+{
+    size_t i;
+
+    answers(what, code, expected, 1, carries, 0, 0);
+    has_codes(what, 0, NULL);
+    expect(map[0] == word, "a refused packet leaves the map");
+    for (i = 0; i < sizeof image; i++) {
+        expect(image[i] == 0xa5, "a refused packet leaves the image");
+    }
+}
+
+/* In the order of the refusals; those behind the expected one apply too. */
+static void run_refused_packets(void)
+{
+    static const Packet none = {0, {0}, {0}};
+    static const Packet two = {2, {0, 2}, {0, 2}};
+    static const size_t wrong[] = {0, 1, 512, 1023, 1025, 1536, 2048};
+    const uint64_t filled = 0xa5a5a5a5a5a5a5a5u;
+    const uint8_t *pieces = pieces_of(&two);
+    size_t i;
+
+    fill();
+    refuses("packet before any opening",
+            sarvoltig_packet(0, image, 0, map, 0, two.blocks, 2, pieces, 1, codes, 0, clear(), SARVOLTIG_RESULT),
+            SARVOLTIG_LENGTH, 0, filled);
+    refuses("packet with a short image",
+            sarvoltig_packet(LEN, image, LEN - 1, map, 0, two.blocks, 2, pieces, 1, codes, 0, clear(), SARVOLTIG_RESULT),
+            SARVOLTIG_IMAGE_SHORT, 0, filled);
+    refuses("packet with no map",
+            sarvoltig_packet(LEN, image, LEN, map, 0, two.blocks, 2, pieces, 1, codes, 0, clear(), SARVOLTIG_RESULT),
+            SARVOLTIG_MAP_SHORT, 0, filled);
+    map[0] = 8;
+    refuses("packet with a bit behind the last block", packet(&two, 1, 0), SARVOLTIG_MAP_SPARE, 0, 8);
+    refuses("no packet with a bit behind the last block", packet(&none, 0, 0), SARVOLTIG_MAP_SPARE, 0, 8);
+    map[0] = 0;
+    for (i = 0; i < sizeof wrong / sizeof wrong[0]; i++) {
+        refuses("packet of a wrong size", packet(&two, wrong[i], PACKET), SARVOLTIG_PIECE_SIZE, 0, 0);
+        refuses("packet of a wrong size with no codes", packet(&two, wrong[i], 0), SARVOLTIG_PIECE_SIZE, 0, 0);
+    }
+    refuses("bytes with no block", packet(&none, 1, PACKET), SARVOLTIG_PIECE_SIZE, 0, 0);
+    refuses("a piece with no block", packet(&none, 512, 0), SARVOLTIG_PIECE_SIZE, 0, 0);
+    refuses("packet with one code", packet(&two, 1024, 1), SARVOLTIG_LIST_SHORT, 2, 0);
+    refuses("packet with no codes", packet(&two, 1024, 0), SARVOLTIG_LIST_SHORT, 2, 0);
+}
+
+/* Every code of a block, also for a number that comes again in the packet. */
+static void run_packets(void)
+{
+    static const Packet none = {0, {0}, {0}};
+    static const Packet mixed = {8,
+                                 {2, 0, 2, 0, 3, (uint64_t)1 << 40, UINT64_MAX, 0},
+                                 {2, 0, 2, 1, 1, 2, 0, 0}};
+    static const uint32_t mixed_codes[] = {SARVOLTIG_DONE,          SARVOLTIG_DONE,         SARVOLTIG_SAME,
+                                           SARVOLTIG_BLOCK_DIFFERS, SARVOLTIG_BLOCK_NUMBER, SARVOLTIG_BLOCK_NUMBER,
+                                           SARVOLTIG_BLOCK_NUMBER,  SARVOLTIG_SAME};
+    static const Packet last = {1, {1}, {1}};
+    static const uint32_t done = SARVOLTIG_DONE;
+    static const uint32_t same = SARVOLTIG_SAME;
+
+    answers("no packet", packet(&none, 0, 0), SARVOLTIG_DONE, 1, 0, 0, 0);
+    answers("a packet", packet(&mixed, 8 * 512, PACKET), SARVOLTIG_DONE, 1, 2, 0, 0);
+    has_codes("a packet", 8, mixed_codes);
+    expect(map[0] == 5 && image[512] == 0xa5 && image[1023] == 0xa5, "a packet brings its blocks and no other");
+    expect(memcmp(image, file, 512) == 0 && memcmp(image + 1024, file + 1024, 512) == 0, "the first of a number stays");
+    answers("no packet with codes", packet(&none, 0, PACKET), SARVOLTIG_DONE, 1, 2, 0, 0);
+    has_codes("no packet with codes", 0, NULL);
+    answers("the last block", packet(&last, 512, 1), SARVOLTIG_DONE, 1, 3, 0, 0);
+    has_codes("the last block", 1, &done);
+    answers("packet with no result",
+            sarvoltig_packet(LEN, image, LEN, map, 1, last.blocks, 1, pieces_of(&last), 512, codes, PACKET, clear(), 0),
+            SARVOLTIG_DONE, 0, 0, 0, 0);
+    has_codes("packet with no result", 1, &same);
+    answers("refused packet with no result",
+            sarvoltig_packet(LEN, image, LEN, map, 1, last.blocks, 1, pieces_of(&last), 512, codes, 0, clear(), 0),
+            SARVOLTIG_LIST_SHORT, 0, 0, 0, 0);
+    has_codes("refused packet with no result", 1, &same);
+    expect(map[0] == 7 && memcmp(image, file, LEN) == 0, "the image is the file, in packets");
+    answers("rows of a file from packets", rows(SARVOLTIG_GENRES, ROWS), SARVOLTIG_DONE, 2, 1, 2, 0);
 }
 
 /* What a slot answers: a refusal, or the text's offset in the string, its length and its encoding. */
@@ -498,6 +627,8 @@ int main(void)
     run_list_results();
     run_wrong_lists();
     run_list_waits();
+    run_refused_packets();
+    run_packets();
     run_codes();
     run_beats();
     run_short_anlz();

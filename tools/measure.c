@@ -13,16 +13,16 @@
 #include "sarvoltig.h"
 
 enum { LEN = 27648, BLOCKS = LEN / SARVOLTIG_BLOCK, WORDS = SARVOLTIG_MAP_WORDS(LEN), ROOM = 1000, N = SARVOLTIG_RESULT };
-enum { OPEN, DELIVER, ROWS, RECORD, TEXT, RECORD_IN, TEXT_IN, BEATS, BEAT, CALLS };
+enum { OPEN, DELIVER, PACKET, ROWS, RECORD, TEXT, RECORD_IN, TEXT_IN, BEATS, BEAT, CALLS };
 
-static const char *const names[] = {"sarvoltig_open",    "sarvoltig_deliver", "sarvoltig_rows",
-                                    "sarvoltig_record",  "sarvoltig_text",    "sarvoltig_record_in",
-                                    "sarvoltig_text_in", "sarvoltig_beats",   "sarvoltig_beat"};
+static const char *const names[] = {"sarvoltig_open",   "sarvoltig_deliver", "sarvoltig_packet",    "sarvoltig_rows",
+                                    "sarvoltig_record", "sarvoltig_text",    "sarvoltig_record_in", "sarvoltig_text_in",
+                                    "sarvoltig_beats",  "sarvoltig_beat"};
 /* An ANLZ file with a grid of one beat. */
 static const uint8_t anlz[] = {'P', 'M', 'A', 'I', 0, 0, 0, 12, 0, 0, 0, 44, 'P', 'Q', 'T', 'Z', 0, 0, 0, 24, 0, 0,
                                0,   32,  0,   0,   0, 0, 0, 0,  0, 0, 0, 0,  0,   1,   0,   1,   0, 0, 0, 0,  0, 0};
 static uint8_t file[LEN], image[LEN], stack[1 << 16];
-static uint64_t map[WORDS], result[N];
+static uint64_t map[WORDS], result[N], blocks[BLOCKS];
 static uint32_t list[ROOM];
 static ucontext_t caller, callee;
 static int call;
@@ -37,6 +37,9 @@ static void make_call(void)
         break;
     case DELIVER:
         sarvoltig_deliver(LEN, image, LEN, map, WORDS, 0, file, SARVOLTIG_BLOCK, result, N);
+        break;
+    case PACKET:
+        sarvoltig_packet(LEN, image, LEN, map, WORDS, blocks, BLOCKS, file, LEN, list, ROOM, result, N);
         break;
     case ROWS:
         sarvoltig_rows(LEN, image, LEN, map, WORDS, SARVOLTIG_TRACKS, list, ROOM, result, N);
@@ -61,21 +64,16 @@ static void make_call(void)
     }
 }
 
-static void deliver_rest(void)
-{
-    uint64_t block;
-
-    for (block = 1; block < BLOCKS; block++) {
-        sarvoltig_deliver(LEN, image, LEN, map, WORDS, block, file + SARVOLTIG_BLOCK * block, SARVOLTIG_BLOCK, result, N);
-    }
-}
-
 int main(void)
 {
     size_t untouched;
+    uint64_t block;
 
     if (fread(file, 1, LEN, stdin) != LEN) {
         return 1;
+    }
+    for (block = 0; block < BLOCKS; block++) {
+        blocks[block] = block;
     }
     for (call = 0; call < CALLS; call++) {
         memset(stack, 0xa5, sizeof stack);
@@ -88,9 +86,6 @@ int main(void)
         for (untouched = 0; stack[untouched] == 0xa5; untouched++) {
         }
         printf("%s %ld\n", names[call], (long)(frame - (stack + untouched)));
-        if (call == DELIVER) {
-            deliver_rest();
-        }
     }
     return 0;
 }

@@ -1,6 +1,7 @@
 -- A block's bit in the map (specs/Bit), after one is set.
 --     bit-past, set-past       past the map's end no bit is set
 --     bit-set, bit-other       the bit set is one, every other is as before
+--     word-set, word-other     the block's word, and every other
 --     words-below              words keep to 64 bits
 --     words-past, map-length   later words are as before, and the map keeps its length
 -- Rests on the digits of one word (proofs/Digit).
@@ -46,7 +47,7 @@ module _ (map : List ℕ) (block : ℕ) where
   unfolding withBit
   set-past h = set-out map (block / 64) (bitOr (wordAt map (block / 64)) (2 ^ (block % 64))) h
 
-  word-set : block / 64 < length map → wordAt (withBit map block) (block / 64) ≡ bitOr (wordAt map (block / 64)) (2 ^ (block % 64))
+  pub word-set : block / 64 < length map → wordAt (withBit map block) (block / 64) ≡ bitOr (wordAt map (block / 64)) (2 ^ (block % 64))
   unfolding withBit
   word-set h = getD-set-same map (block / 64) (bitOr (wordAt map (block / 64)) (2 ^ (block % 64))) 0 h
 

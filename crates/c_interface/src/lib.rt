@@ -1,16 +1,17 @@
-// The C interface, over numbers and slices: opening, delivery, the three questions, reading from a list, and the beat grid of
-// an ANLZ file. Each function makes one call of the library and replies to its answer (crates c_replies, c_beats).
+// The C interface, over numbers and slices: opening, delivery, packets, the three questions, reading from a list, and the beat
+// grid of an ANLZ file. Each function makes one call of the library and replies to its answer (crates c_replies, c_beats).
 ghost use mathlib.Core.Path.{_≡_};
 ghost use Rattle.intake.specs.Open.{opening};
 ghost use Rattle.intake.specs.Memory.{memory};
 ghost use Rattle.intake.specs.Deliver.{delivery};
+ghost use Rattle.intake.specs.Packet.{packet};
 ghost use Rattle.export.specs.Rows.{askRows};
 ghost use Rattle.export.specs.Record.{askRecord};
 ghost use Rattle.export.specs.Text.{askText};
 ghost use Rattle.export.specs.FromList.{askRecordIn, askTextIn};
 ghost use Rattle.beat_grid.specs.Questions.{askBeats, askBeat};
 ghost use Rattle.c_reply.specs.Reply.{replyTo, Replied};
-ghost use Rattle.c_replies.specs.Replies.{openReply, deliverReply, walkReply, recordReply, textReply};
+ghost use Rattle.c_replies.specs.Replies.{openReply, deliverReply, packetReply, walkReply, recordReply, textReply};
 ghost use Rattle.c_beats.specs.Replies.{beatsReply, beatReply};
 use intake::Intake;
 
@@ -41,6 +42,30 @@ pub extern "C" fn sarvoltig_deliver(
 {
     c_replies::reply_delivered(
         intake::deliver(Intake::new(len), image, map, block, piece),
+        result,
+    )
+}
+
+// Delivers a packet of blocks to an intake of a file of len bytes.
+#[no_mangle]
+pub extern "C" fn sarvoltig_packet(
+    len: u64,
+    image: &mut [u8],
+    map: &mut [u64],
+    blocks: &[u64],
+    pieces: &[u8],
+    codes: &mut [u32],
+    result: &mut [u64],
+) -> u32
+    ensures { λ r. ⌜ Replied (replyTo packetReply (packet len (memory (now (image .entry)) (now (map .entry)))
+        (now (blocks .entry)) (now (pieces .entry)) (now (codes .entry)) .answer)) r (now (result .entry)) (now (result .exit)) ⌝ }
+    ensures { λ _. ⌜ memory (now (image .exit)) (now (map .exit)) ≡ packet len (memory (now (image .entry)) (now (map .entry)))
+        (now (blocks .entry)) (now (pieces .entry)) (now (codes .entry)) .memory ⌝ }
+    ensures { λ _. ⌜ now (codes .exit) ≡ packet len (memory (now (image .entry)) (now (map .entry)))
+        (now (blocks .entry)) (now (pieces .entry)) (now (codes .entry)) .results ⌝ }
+{
+    c_replies::reply_packet(
+        intake::deliver_packet(Intake::new(len), image, map, blocks, pieces, codes),
         result,
     )
 }

@@ -19,6 +19,10 @@ abbrev pub deliverReply : Taken → Reply
 deliverReply (taken new count) = reply code.done (count ∷ [])
 deliverReply (taken same count) = reply code.same (count ∷ [])
 
+-- the held count
+abbrev pub packetReply : ℕ → Reply
+packetReply count = reply code.done (count ∷ [])
+
 abbrev pub waitReply : (page rows pages : ℕ) → Reply
 waitReply page rows pages = reply code.waiting (rows ∷ pages ∷ page ∷ [])
 

@@ -5,18 +5,20 @@ ghost use Rattle.refusal.specs.Fault.{faultOf};
 ghost use Rattle.row.specs.Record.{trackOf, recordOf};
 ghost use Rattle.intake.specs.Open.{openedOf};
 ghost use Rattle.intake.specs.Deliver.{deliveredOf};
+ghost use Rattle.intake.specs.Packet.{heldOf};
 ghost use Rattle.chain.specs.Tally.{walkedOf};
 ghost use Rattle.export.specs.Record.{recordReplyOf};
 ghost use Rattle.export.specs.Text.{textReplyOf};
 ghost use Rattle.c_reply.specs.Code.{done};
 ghost use Rattle.c_reply.specs.Reply.{reply, replyTo, Replied};
-ghost use Rattle.c_replies.specs.Replies.{openReply, deliverReply, waitReply, walkReply, recordReply, encodingNumber, textReply};
+ghost use Rattle.c_replies.specs.Replies.{openReply, deliverReply, packetReply, waitReply, walkReply, recordReply, encodingNumber, textReply};
 use c_reply::Code;
 use chain::Walked;
 use export::RecordReply;
 use export::TextReply;
 use intake::Delivered;
 use intake::Opened;
+use intake::PacketDelivered;
 use refusal::Refusal;
 use row::Record;
 use row::Track;
@@ -55,6 +57,16 @@ pub fn reply_delivered(answer: Delivered, result: &mut [u64]) -> u32
         Delivered::New(count) => c_reply::put(Code::DONE, &[count], result),
         Delivered::Same(count) => c_reply::put(Code::SAME, &[count], result),
         Delivered::Refused(refusal) => refuse(refusal, result),
+    }
+}
+
+// The reply of a packet.
+pub fn reply_packet(answer: PacketDelivered, result: &mut [u64]) -> u32
+    ensures { λ r. ⌜ Replied (replyTo packetReply (heldOf answer)) r (now (result .entry)) (now (result .exit)) ⌝ }
+{
+    match answer {
+        PacketDelivered::Held(count) => c_reply::put(Code::DONE, &[count], result),
+        PacketDelivered::Refused(refusal) => refuse(refusal, result),
     }
 }
 

@@ -7,7 +7,7 @@ pub struct Code {
 }
 
 impl Code {
-    // Open, New, Full, found, or the number of beats.
+    // Open, New, the held count of a packet, Full, found, or the number of beats.
     pub const DONE: u32 = 0;
 
     pub const SAME: u32 = 64;

@@ -1,4 +1,6 @@
 -- Edges: C1 to C12 hold together, by computation (rule 9.1).
 -- Codes: strings near the edge between recording codes and others (rule 9.14), and C9 to C12 in every slot (rule 9.15).
+-- Packets: packets near their edges (rule 9.16), from the laws of a packet and of the verdict (intake: PacketFold, Verdict).
 pub mod Edges
 pub mod Codes
+pub mod Packets

@@ -45,7 +45,7 @@ module _ (len : ℕ) (m : Memory) (block : ℕ) (piece : List ℕ) where
   unfolding delivery
   new-added {n} e = by (verdict len m block piece) refl e
     where
-      by : (v : Answer Verdict) → verdict len m block piece ≡ v → withCount len (afterVerdict m block piece v) v ≡ given (taken new n)
+      by : (v : Answer Verdict) → verdict len m block piece ≡ v → withCount len (afterVerdict m block piece v .map) v ≡ given (taken new n)
           → Added len m block piece (afterVerdict m block piece v) × (n ≡ heldCount len (afterVerdict m block piece v .map))
       by (given new) f q = (stored-added (passed len m block piece f) (new-absent len m block piece f), cc)
       by (given same) f q = never (cc)
@@ -56,7 +56,7 @@ module _ (len : ℕ) (m : Memory) (block : ℕ) (piece : List ℕ) where
   unfolding delivery
   same-nothing {n} e = by (verdict len m block piece) e
     where
-      by : (v : Answer Verdict) → withCount len (afterVerdict m block piece v) v ≡ given (taken same n)
+      by : (v : Answer Verdict) → withCount len (afterVerdict m block piece v .map) v ≡ given (taken same n)
           → (afterVerdict m block piece v ≡ m) × (n ≡ heldCount len (m .map))
       by (given new) q = never (cc)
       by (given same) q = (refl, cc)
@@ -66,7 +66,7 @@ module _ (len : ℕ) (m : Memory) (block : ℕ) (piece : List ℕ) where
   unfolding delivery
   refused-nothing {f} e = by (verdict len m block piece) e
     where
-      by : (v : Answer Verdict) → withCount len (afterVerdict m block piece v) v ≡ refused f → afterVerdict m block piece v ≡ m
+      by : (v : Answer Verdict) → withCount len (afterVerdict m block piece v .map) v ≡ refused f → afterVerdict m block piece v ≡ m
       by (given new) q = never (cc)
       by (given same) q = refl
       by (refused r) q = refl

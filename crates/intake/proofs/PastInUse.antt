@@ -48,7 +48,7 @@ module _ {len : ℕ} {m n : Memory} (a : SameInUse len m n) where
   block-agree block h =
       same-block (m .image) (n .image) block (a .imageLength) (λ j l. same-front 0 (m .image) (n .image) len (block * blockSize + j) (a .bytes) (omega arith))
 
-  count-agree : heldCount len (m .map) ≡ heldCount len (n .map)
+  pub count-agree : heldCount len (m .map) ≡ heldCount len (n .map)
   unfolding heldCount
   count-agree = rw (a .words)
 
@@ -74,7 +74,7 @@ module _ {len : ℕ} {m n : Memory} (a : SameInUse len m n) where
     unread = rw verdict-agree (by (verdict len n block piece) refl)
       where
         by : (v : Answer Verdict) → verdict len n block piece ≡ v
-            → withCount len (afterVerdict m block piece v) v ≡ withCount len (afterVerdict n block piece v) v
+            → withCount len (afterVerdict m block piece v .map) v ≡ withCount len (afterVerdict n block piece v .map) v
         by (refused f) e = refl
         by (given same) e = ap (λ (k : ℕ). given (taken same k)) count-agree
         by (given new) e =

@@ -2,7 +2,7 @@
 --     lengths-given, lengths-pass               1 to 3 do not apply exactly when the length is allowed and both buffers are long enough
 --     lengths-refused, early-refused, call-refused   a refusal answers, whatever follows
 --     only-four, call-passes                    past 1 to 3, and past 1 to 4, what follows answers
---     sound, sound-accepted, call-given         1 to 4 do not apply exactly when, besides, no spare bit is set
+--     sound, sound-accepted, sound-spare, call-given         1 to 4 do not apply exactly when, besides, no spare bit is set
 --     whole-blocks                              an allowed length is a whole number of blocks
 use mathlib.Core.Path.{_≡_, refl, ap, _∙_}
 use mathlib.Core.Bool.{Bool, true, false, _&&_}
@@ -101,6 +101,10 @@ module _ (len : ℕ) (m : Memory) where
   pub sound-accepted : Sound len m → Accepted len (m .image) (m .map)
   unfolding checkCall
   sound-accepted e = lengths-given len (m .image) (m .map) e .0
+
+pub sound-spare : (len : ℕ) (m : Memory) → Sound len m → spareBit len (m .map) ≡ false
+unfolding checkCall
+sound-spare len m e = rule-passed _ _ _ (lengths-given len (m .image) (m .map) e .1) .0
 
 pub whole-blocks : (len : ℕ) → allowedLength len ≡ true → len ≡ blockCount len * blockSize
 unfolding allowedLength

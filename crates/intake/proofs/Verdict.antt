@@ -2,7 +2,8 @@
 --     block-inside                                 a block of the file lies inside the image
 --     call-refuses, number-refused, size-refused, bytes-refused, is-same, is-new    the verdict in each case
 --     passed, new-absent                           what is known where it is not a refusal, and where it is New
---     new-passed, new-outcome, same-outcome, refused-outcome   the whole delivery, from what the calls of `deliver` give
+--     new-passed, new-judged, same-judged, refused-judged      the verdict with what it leaves, from what the calls of `take_block` give
+--     refused-outcome, counted-outcome                         the whole delivery, from what the calls of `deliver` give
 -- Rests on refusals 1 to 4 (proofs/RulesPassed).
 use mathlib.Core.Path.{_≡_, sym, ap, _∙_}
 use mathlib.Core.Bool.{true, false}
@@ -16,14 +17,13 @@ use Rattle.format.specs.Size.{blockSize}
 use Rattle.refusal.specs.declared.Fault.{Fault}
 use Rattle.refusal.specs.declared.Refusal.{Refusal}
 use Rattle.refusal.specs.Fault.{fault, faultOf}
-use Rattle.refusal.specs.Answer.{given, refused}
+use Rattle.refusal.specs.Answer.{Answer, given, refused}
 use Rattle.bitmap.specs.Words.{blockCount}
 use Rattle.bitmap.specs.Bit.{bit}
-use Rattle.bitmap.specs.Count.{heldCount}
 use Rattle.intake.specs.Memory.{Memory, blockAt}
 use Rattle.intake.specs.Check.{checkCall}
 use Rattle.intake.specs.Equal.{equal}
-use Rattle.intake.specs.Deliver.{Verdict, new, same, taken, verdict, stored, outcome, delivery}
+use Rattle.intake.specs.Deliver.{Verdict, new, same, verdict, stored, Judgement, judgement, judged, Taken, withCount, outcome, delivery}
 use Rattle.intake.specs.Private.{Sound, judgedOf}
 use Rattle.intake.specs.declared.Judged.{Judged}
 use Rattle.intake.specs.declared.Judged.the-variants.{New, Same, Refused}
@@ -86,20 +86,26 @@ module _ (len : ℕ) (m : Memory) (block : ℕ) (piece : List ℕ) where
       never (cc)))
       (λ b. b)
 
-  -- the delivery, from what the calls of `deliver` give
+  -- the verdict with what it leaves, from what the calls of `take_block` give
   module _ {r : Judged} (found : judgedOf r ≡ verdict len m block piece) where
     pub new-passed : r ≡ New → Passed
     new-passed told = passed (sym found ∙ ap judgedOf told)
 
-    pub new-outcome : {after : Memory} {count : ℕ} → r ≡ New → after ≡ stored m block piece → count ≡ heldCount len (after .map)
-        → outcome (given (taken new count)) after ≡ delivery len m block piece
-    unfolding delivery
-    new-outcome told a n = rw (← found, told, n, a)
+    pub new-judged : {after : Memory} → r ≡ New → after ≡ stored m block piece → judgement (given new) after ≡ judged len m block piece
+    new-judged told a = rw (← found, told, a)
 
-    pub same-outcome : {count : ℕ} → r ≡ Same → count ≡ heldCount len (m .map) → outcome (given (taken same count)) m ≡ delivery len m block piece
-    unfolding delivery
-    same-outcome told n = rw (← found, told, n)
+    pub same-judged : r ≡ Same → judgement (given same) m ≡ judged len m block piece
+    same-judged told = rw (← found, told)
 
-    pub refused-outcome : {refusal : Refusal} → r ≡ Refused refusal → outcome (refused (faultOf refusal)) m ≡ delivery len m block piece
-    unfolding delivery
-    refused-outcome told = rw (← found, told)
+    pub refused-judged : {refusal : Refusal} → r ≡ Refused refusal → judgement (refused (faultOf refusal)) m ≡ judged len m block piece
+    refused-judged told = rw (← found, told)
+
+  -- the delivery, from what the calls of `deliver` give
+  pub refused-outcome : {f : Fault} → checkCall {A = Unit} len m (given tt) ≡ refused f → outcome (refused f) m ≡ delivery len m block piece
+  unfolding delivery
+  refused-outcome e = rw (call-refuses e)
+
+  pub counted-outcome : {j : Judgement} {a : Answer Taken} → j ≡ judged len m block piece → a ≡ withCount len (j .memory .map) (j .verdict)
+      → outcome a (j .memory) ≡ delivery len m block piece
+  unfolding delivery
+  counted-outcome e n = rw (n, e)

@@ -21,7 +21,7 @@ checkLengths len image map rest =
     (refuseIf (ltb (length map) (wordCount len)) (fault 3 0)
     rest))
 
--- Rules 2.25, 2.27 and 2.28: 1, 2, 3, 4, before every call but the opening
+-- Rules 2.25, 2.27, 2.28 and 2.31: 1, 2, 3, 4, before every call but the opening
 unfoldable pub checkCall : {A : Type 0} (len : ℕ) (m : Memory) (rest : Answer A) → Answer A
 checkCall len m rest =
     checkLengths len (m .image) (m .map)

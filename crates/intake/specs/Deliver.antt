@@ -1,4 +1,4 @@
--- Rules 1.12 to 1.16: delivery. The verdict comes first, then what it does to image and map, then the held count.
+-- Rules 1.12 to 1.16: delivery. The verdict comes first, with what it does to image and map, then the held count.
 use mathlib.Core.Bool.{cond, not}
 use Prim.Native.Nat.{ℕ}
 use lib.ListN.{length}
@@ -15,6 +15,11 @@ use Rattle.intake.specs.Check.{checkCall}
 use Rattle.intake.specs.Equal.{equal}
 use Rattle.intake.specs.declared.Delivered.{Delivered}
 use Rattle.intake.specs.declared.Delivered.the-variants.{New, Same, Refused}
+
+-- what a delivery is given besides the record and both buffers
+pub record Delivery : Type 0 where
+  pub block : ℕ
+  pub piece : Bytes
 
 -- a block that is not held, and one that is held with the piece's bytes
 pub data Verdict : Type 0 where
@@ -41,12 +46,27 @@ afterVerdict m block piece (given new) = stored m block piece
 afterVerdict m block piece (given same) = m
 afterVerdict m block piece (refused f) = m
 
+-- the verdict on a delivery, and both buffers afterwards: nothing is counted yet
+pub record Judgement : Type 0 where
+  pub verdict : Answer Verdict
+  pub memory : Memory
+
+abbrev pub judgement : Answer Verdict → Memory → Judgement
+judgement v m = record { verdict = v; memory = m }
+
+-- what a verdict leaves
+abbrev pub settled : (m : Memory) (block : ℕ) (piece : Bytes) (v : Answer Verdict) → Judgement
+settled m block piece v = judgement v (afterVerdict m block piece v)
+
+abbrev pub judged : (len : ℕ) (m : Memory) (block : ℕ) (piece : Bytes) → Judgement
+judged len m block piece = settled m block piece (verdict len m block piece)
+
 -- Rule 1.16: a good answer carries the held count after the call
 pub data Taken : Type 0 where
   taken : (v : Verdict) (count : ℕ) → Taken
 
-abbrev pub withCount : (len : ℕ) (after : Memory) (v : Answer Verdict) → Answer Taken
-withCount len after v = andThen v (λ (x : Verdict). given (taken x (heldCount len (after .map))))
+abbrev pub withCount : (len : ℕ) (map : Words) (v : Answer Verdict) → Answer Taken
+withCount len map v = andThen v (λ (x : Verdict). given (taken x (heldCount len map)))
 
 -- the answer for each case of the code's enum
 abbrev pub deliveredOf : Delivered → Answer Taken
@@ -65,9 +85,9 @@ outcome answer m = record { answer = answer; memory = m }
 abbrev pub outcomeOf : (r : Delivered) (image : Bytes) (map : Words) → Outcome
 outcomeOf r image map = outcome (deliveredOf r) (memory image map)
 
--- what a delivery with a given verdict answers and leaves
-abbrev pub settled : (len : ℕ) (m : Memory) (block : ℕ) (piece : Bytes) (v : Answer Verdict) → Outcome
-settled len m block piece v = outcome (withCount len (afterVerdict m block piece v) v) (afterVerdict m block piece v)
+-- a delivery is a verdict and then a count
+abbrev pub counted : (len : ℕ) (j : Judgement) → Outcome
+counted len j = outcome (withCount len (j .memory .map) (j .verdict)) (j .memory)
 
 unfoldable pub delivery : (len : ℕ) (m : Memory) (block : ℕ) (piece : Bytes) → Outcome
-delivery len m block piece = settled len m block piece (verdict len m block piece)
+delivery len m block piece = counted len (judged len m block piece)

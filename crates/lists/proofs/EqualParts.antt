@@ -1,5 +1,6 @@
 -- Lists that agree in parts.
 --     same-front, same-past    equal fronts, and equal rests, have the same elements
+--     front-same               two lists of one length with the same elements before n have equal fronts
 --     same-parts               two lists of one length that agree before n and from n on are equal
 --     copy-more                a turn of a loop that copies one list over another: one element more of the front is copied
 use mathlib.Core.Path.{_≡_, sym, ap, _∙_}
@@ -7,7 +8,7 @@ use mathlib.Core.List.{List, _++_}
 use Prim.Native.Nat.{ℕ, suc, _+_, _-_, _<_, _≤_}
 use native.Mathlib.Omega.{arith}
 use native.Mathlib.Numerals.{add-one}
-use lib.ListN.{length, take, drop, getD, set}
+use lib.ListN.{length, take, drop, getD, set, length-take}
 use lib.Seq.{ext-getD, getD-take, getD-drop, drop-cons, take-suc, set-at, length-take-le, append-snoc}
 use lib.Dec.{ltb}
 use borrow.Author.Tests.{ltb-true, ltb-false}
@@ -16,6 +17,12 @@ use Rattle.lists.proofs.Choice.{on}
 module _ {A : Type 0} (d : A) (s t : List A) (n : ℕ) where
   pub same-front : (i : ℕ) → take n s ≡ take n t → i < n → getD s i d ≡ getD t i d
   same-front i e h = sym (getD-take n s i d h) ∙ ap (λ (x : List A). getD x i d) e ∙ getD-take n t i d h
+
+  pub front-same : length s ≡ length t → ((i : ℕ) → i < n → getD s i d ≡ getD t i d) → take n s ≡ take n t
+  front-same e h =
+      ext-getD d (take n s) (take n t) (simp (length-take, e)) (λ i l.
+      let g : i < n = omega (arith, length-take n s) in
+      getD-take n s i d g ∙ h i g ∙ sym (getD-take n t i d g))
 
   pub same-past : (i : ℕ) → drop n s ≡ drop n t → n ≤ i → getD s i d ≡ getD t i d
   same-past i e h =

@@ -1,4 +1,4 @@
--- Names for the lists that definitions take: the bytes of a slice, the words of a map, and places of rows, in the image or in a page.
+-- Names for the lists that definitions take: the bytes of a slice, the words of a map and other numbers, and places of rows, in the image or in a page.
 use mathlib.Core.List.{List}
 use Prim.Native.Nat.{ℕ}
 

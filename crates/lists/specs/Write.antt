@@ -1,4 +1,4 @@
--- Rules 2.23, 4.10, 13.2: numbers written to the front of a list.
+-- Rules 1.21, 2.23, 4.10, 13.2: numbers written to the front of a list.
 use mathlib.Core.List.{List}
 use Prim.Native.Nat.{ℕ}
 use lib.Seq.{sets}

@@ -27,6 +27,6 @@ faultOf (RowIndex page) = fault 13 page
 faultOf (RowShort page) = fault 14 page
 faultOf (TextFault page) = fault 15 page
 faultOf ChainLoop = fault 16 0
-faultOf (ListShort rows) = fault 17 rows
+faultOf (ListShort needed) = fault 17 needed
 faultOf NoRow = fault 18 0
 faultOf NoSlot = fault 19 0

@@ -27,7 +27,7 @@ pub enum Refusal {
     RowShort(u32),
     TextFault(u32),
     ChainLoop,
-    // The rows found.
+    // The length that the list needs: the rows found, or the blocks of a packet.
     ListShort(usize),
     NoRow,
     NoSlot,
@@ -60,7 +60,7 @@ impl Refusal {
             Refusal::RowShort(page) => numbered(14, page as u64),
             Refusal::TextFault(page) => numbered(15, page as u64),
             Refusal::ChainLoop => numbered(16, 0),
-            Refusal::ListShort(rows) => numbered(17, rows as u64),
+            Refusal::ListShort(needed) => numbered(17, needed as u64),
             Refusal::NoRow => numbered(18, 0),
             Refusal::NoSlot => numbered(19, 0),
         }

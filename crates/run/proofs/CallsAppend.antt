@@ -9,8 +9,9 @@ use lib.Dec.{eqb}
 use borrow.Author.Tests.{eqb-true, eqb-false}
 use Rattle.lists.proofs.Choice.{on}
 use Rattle.intake.specs.Memory.{Memory}
-use Rattle.run.specs.Received.{Delivery, Received, receive, has}
-use Rattle.run.specs.Call.{Call, deliver, ask}
+use Rattle.intake.specs.Deliver.{Delivery}
+use Rattle.run.specs.Received.{Received, receive, receiveEach, has}
+use Rattle.run.specs.Call.{Call, deliveriesOf}
 use Rattle.run.specs.Run.{afterCall, receiveCall, afterCalls, receiveCalls}
 use Rattle.run.proofs.ReceivedBlocks.{receive-again, receive-other}
 
@@ -42,11 +43,12 @@ module _ (len : ℕ) where
       (λ q. receive-again len d r (ap has (rw (eqb-true b (d .block) q) at e)) b ∙ e)
       (λ q. receive-other len d r b (eqb-false b (d .block) q) ∙ e)
 
-  call-keeps : (call : Call) (r : Received) (b : ℕ) (piece : List ℕ) → r b ≡ some piece → receiveCall len call r b ≡ some piece
-  call-keeps (deliver d) r b piece e = receive-keeps d r b piece e
-  call-keeps (ask q) r b piece e = e
+  each-keeps : (deliveries : List Delivery) (r : Received) (b : ℕ) (piece : List ℕ) → r b ≡ some piece → receiveEach len deliveries r b ≡ some piece
+  unfolding receiveEach
+  each-keeps [] r b piece e = e
+  each-keeps (d ∷ rest) r b piece e = each-keeps rest (receive len d r) b piece (receive-keeps d r b piece e)
 
   pub calls-keep : (calls : List Call) (r : Received) (b : ℕ) (piece : List ℕ) → r b ≡ some piece → receiveCalls len calls r b ≡ some piece
   unfolding receiveCalls
   calls-keep [] r b piece e = e
-  calls-keep (call ∷ calls) r b piece e = calls-keep calls (receiveCall len call r) b piece (call-keeps call r b piece e)
+  calls-keep (call ∷ calls) r b piece e = calls-keep calls (receiveCall len call r) b piece (each-keeps (deliveriesOf call) r b piece e)

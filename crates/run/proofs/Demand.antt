@@ -1,7 +1,7 @@
 -- Demand 3 (specs/Demand), for every run: one term; and its corollary for reading from a list (specs/FromList).
--- Rests on what holds at the end of a run (proofs/RunHolds, proofs/CallsAppend), on the questions over the blocks held (export: Questions),
+-- Rests on what holds at the end of a run (proofs/RunHolds, proofs/CallsAppend, proofs/PacketCalls), on the questions over the blocks held (export: Questions),
 -- and on proofs/HeldBlocks and proofs/AnswersKept.
-use mathlib.Core.Path.{_≡_, ap, _∙_}
+use mathlib.Core.Path.{_≡_, sym, ap, _∙_}
 use mathlib.Core.List.{List, _++_}
 use mathlib.Core.Option.{some}
 use Prim.Native.Nat.{ℕ}
@@ -10,10 +10,11 @@ use Rattle.bitmap.specs.Count.{heldCount}
 use Rattle.intake.specs.Private.{Sound}
 use Rattle.intake.specs.Memory.{Memory}
 use Rattle.intake.specs.Open.{Opening}
-use Rattle.run.specs.Received.{Received, nothing}
+use Rattle.run.specs.Received.{Received, nothing, receiveEach}
 use Rattle.run.specs.Holds.{Holds}
-use Rattle.run.specs.Call.{Question, allRows, oneRecord, oneText, Call, deliver, ask, rows, row, text, answer, reply}
+use Rattle.run.specs.Call.{Question, allRows, oneRecord, oneText, Packet, Call, deliver, deliverPacket, ask, deliveriesOf, rows, row, text, answer, reply}
 use Rattle.run.specs.Run.{afterOpening, runMemory, runReceived}
+use Rattle.run.specs.Packet.{oneByOne, TakesPacket}
 use Rattle.run.specs.Demand.{Demand, EveryRun}
 use Rattle.run.specs.FromList.{EveryRunKeepsLists}
 use Rattle.intake.proofs.RulesPassed.{Accepted}
@@ -22,7 +23,8 @@ use Rattle.table_walk.proofs.SameBlocks.{SameBlocks, MoreBlocks}
 use Rattle.export.proofs.Questions.{ask-rows-same, ask-record-same, ask-text-same}
 use Rattle.run.proofs.HoldsKept.{holds-sound}
 use Rattle.run.proofs.RunHolds.{run-holds, run-sound, run-alike}
-use Rattle.run.proofs.CallsAppend.{received-append, received-last, calls-last, calls-keep}
+use Rattle.run.proofs.CallsAppend.{received-append, received-last, calls-append, calls-last, calls-keep}
+use Rattle.run.proofs.PacketCalls.{after-each, receive-each, packet-memory, packet-results, packet-count, packet-fault}
 use Rattle.run.proofs.FileMemory.{received-sound, whole-sound, order-whole}
 use Rattle.run.proofs.HeldBlocks.{holds-sized, same-received, same-whole, holds-more}
 use Rattle.run.proofs.AnswersKept.{keeps}
@@ -52,12 +54,31 @@ module _ (len : ℕ) (before : Memory) (passed : Accepted len (before .image) (b
   more-later later =
       holds-more at-end (received-later len calls later) (run-holds len before passed (calls ++ later))
 
+  takes : (p : Packet) → TakesPacket len before calls p
+  takes p =
+      let m = runMemory len before calls in
+      let all = deliveriesOf (deliverPacket p) in
+      record {
+        taken = calls-last len calls (deliverPacket p) (afterOpening len before);
+        memory = calls-last len calls (deliverPacket p) (afterOpening len before) ∙ packet-memory len m (still-sound calls) p
+            ∙ sym (calls-append len calls (oneByOne all) (afterOpening len before) ∙ after-each len all m);
+        received = received-last len calls (deliverPacket p) nothing
+            ∙ sym (received-append len calls (oneByOne all) nothing ∙ receive-each len all (runReceived len calls));
+        results = packet-results len m (still-sound calls) p;
+        count = λ e.
+            packet-count len m (still-sound calls) p e
+            ∙ ap (λ (n : Memory). heldCount len (n .map)) (sym (calls-last len calls (deliverPacket p) (afterOpening len before)));
+        refusal = packet-fault len m (still-sound calls) p;
+      }
+
   at-every-end : Demand len before calls
+  unfolding receiveEach
   at-every-end =
       record {
         opens = ap (λ (o : Opening). o .answer) (opens len (before .image) (before .map) passed);
         holds = at-end;
         delivers = λ d. (calls-last len calls (deliver d) (afterOpening len before), received-last len calls (deliver d) nothing);
+        packets = takes;
         asks = λ q. (calls-last len calls (ask q) (afterOpening len before), received-last len calls (ask q) nothing);
         answers = let sound = received-sound len (passed .allowed) (runReceived len calls) (holds-sized at-end passed) in
             answer-same (still-sound calls) sound (same-received at-end passed);

@@ -1,11 +1,11 @@
 -- What holds of image and map at the end of any run (specs/Holds): how it begins, and that each delivery keeps it. Rule 8.6.
 --     holds-start      after an opening that is not refused, with nothing received
 --     holds-sound      refusals 1 to 4 never apply
---     holds-deliver    after a delivery, with the received blocks updated
+--     holds-deliver, holds-each    after a delivery, and after some, with the received blocks updated
 -- Rests on the verdict (intake: Verdict), on what storing a block changes (bitmap: BitSet, HeldCount; intake: BlockBytes) and on proofs/ReceivedBlocks.
 use mathlib.Core.Path.{_≡_, refl, sym, ap, _∙_, subst}
 use mathlib.Core.Bool.{true, false}
-use mathlib.Core.List.{List}
+use mathlib.Core.List.{List, [], _∷_}
 use mathlib.Core.Option.{none, some}
 use Prim.Native.Nat.{ℕ, _+_, _*_, _/_, _%_, _<_, _≤_}
 use native.Mathlib.Omega.{arith}
@@ -21,8 +21,9 @@ use Rattle.intake.specs.Private.{Sound}
 use Rattle.intake.specs.Memory.{Memory, memory, blockAt, withBlock}
 use Rattle.intake.specs.Open.{Opening, cleared}
 use Rattle.intake.specs.Equal.{equal}
-use Rattle.intake.specs.Deliver.{stored, delivery}
-use Rattle.run.specs.Received.{Delivery, Received, nothing, receive, has}
+use Rattle.intake.specs.Deliver.{Delivery, stored, delivery}
+use Rattle.intake.specs.Packet.{afterEach}
+use Rattle.run.specs.Received.{Received, nothing, receive, receiveEach, has}
 use Rattle.run.specs.Holds.{Holds}
 use Rattle.run.specs.Run.{afterOpening}
 use Rattle.lists.proofs.Choice.{on, never}
@@ -181,3 +182,9 @@ holds-deliver {len} {before} {m} {r} d a h =
         (λ s. sized l (eqb-true (length (d .piece)) blockSize s))
         (λ s. let other = eqb-false (length (d .piece)) blockSize s in
         rw (size-refused len m (d .block) (d .piece) passes l other) (holds-same (receive-nothing len d r (size-brings-nothing len d l other)) h))
+
+pub holds-each : {len : ℕ} {before m : Memory} {r : Received} (deliveries : List Delivery) → Accepted len (before .image) (before .map) → Holds len before r m
+    → Holds len before (receiveEach len deliveries r) (afterEach len m deliveries)
+unfolding receiveEach afterEach
+holds-each [] a h = h
+holds-each (d ∷ rest) a h = holds-each rest a (holds-deliver d a h)

@@ -1,6 +1,7 @@
 -- The map of the argument.
 --     ReceivedBlocks   the received blocks after one delivery
 --     HoldsKept        what holds at the end of a run begins with the opening and is kept by each delivery: by ReceivedBlocks and intake's laws
+--     PacketCalls      a packet in a run leaves what its deliveries do, and is refused by its arguments alone
 --     Determined       what holds there determines image and map
 --     RunHolds         so it holds at every end, refusals 1 to 4 never apply, and equal received blocks give equal ends
 --     CallsAppend      a run that goes on keeps its received blocks
@@ -12,6 +13,7 @@
 --     Demand           all of it, one term; and its corollary for lists
 pub mod ReceivedBlocks
 pub mod HoldsKept
+pub mod PacketCalls
 pub mod Determined
 pub mod RunHolds
 pub mod CallsAppend

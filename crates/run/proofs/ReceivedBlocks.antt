@@ -14,7 +14,8 @@ use lib.Dec.{eqb}
 use borrow.Author.Tests.{lt-ltb, le-ltb, eq-eqb, ne-eqb, eqb-true, eqb-false}
 use Rattle.format.specs.Size.{blockSize}
 use Rattle.bitmap.specs.Words.{blockCount}
-use Rattle.run.specs.Received.{Delivery, Received, nothing, brings, firstPiece, receive, has, receivedBelow}
+use Rattle.intake.specs.Deliver.{Delivery}
+use Rattle.run.specs.Received.{Received, nothing, brings, firstPiece, receive, has, receivedBelow}
 use Rattle.lists.proofs.Choice.{never, on}
 
 pub receive-other : (len : ℕ) (d : Delivery) (r : Received) (b : ℕ) → (b ≡ d .block → ⊥) → receive len d r b ≡ r b

@@ -9,13 +9,14 @@ use Rattle.refusal.specs.Answer.{given}
 use Rattle.bitmap.specs.Words.{blockCount}
 use Rattle.intake.specs.Memory.{Memory}
 use Rattle.intake.specs.Open.{opened, opening}
-use Rattle.intake.specs.Deliver.{delivery}
-use Rattle.run.specs.Received.{Delivery, Received, receive, has}
+use Rattle.intake.specs.Deliver.{Delivery, delivery}
+use Rattle.run.specs.Received.{Received, receive, has}
 use Rattle.run.specs.Holds.{Holds}
-use Rattle.run.specs.Call.{Question, Call, deliver, ask, answer, reply}
+use Rattle.run.specs.Call.{Question, Packet, Call, deliver, ask, answer, reply}
 use Rattle.run.specs.Run.{Opens, runMemory, runReceived, EndAlike}
 use Rattle.run.specs.File.{inOrder, receivedFile, IsWhole, wholeFile}
 use Rattle.run.specs.Later.{Keeps}
+use Rattle.run.specs.Packet.{TakesPacket}
 
 -- Rule 8.9: the same blocks received, for each number below B
 abbrev pub SameReceived : (len : ℕ) (r s : Received) → Type 0
@@ -30,12 +31,14 @@ pub record Demand (len : ℕ) (before : Memory) (calls : List Call) : Type 0 whe
   pub delivers : (d : Delivery)
       → (runMemory len before (calls ++ (deliver d ∷ [])) ≡ delivery len (runMemory len before calls) (d .block) (d .piece) .memory)
       × (runReceived len (calls ++ (deliver d ∷ [])) ≡ receive len d (runReceived len calls))
+  -- Rules 8.16 and 8.17: a packet is its deliveries one by one
+  pub packets : (p : Packet) → TakesPacket len before calls p
   -- Rule 8.5: a question leaves image, map and received blocks
   pub asks : (q : Question)
       → (runMemory len before (calls ++ (ask q ∷ [])) ≡ runMemory len before calls) × (runReceived len (calls ++ (ask q ∷ [])) ≡ runReceived len calls)
   -- Rule 8.8
   pub answers : (q : Question) → answer len (runMemory len before calls) q ≡ answer len (receivedFile len (runReceived len calls)) q
-  -- Rule 8.9; deliveries are answered alike, too
+  -- Rule 8.9; deliveries and packets are answered alike, too, and a packet leaves the same results
   pub alike : (others : List Call) → SameReceived len (runReceived len calls) (runReceived len others)
       → EndAlike len (runMemory len before calls) (runMemory len before others)
   pub replies : (others : List Call) → SameReceived len (runReceived len calls) (runReceived len others)

@@ -6,5 +6,6 @@ pub mod File
 pub mod Written
 pub mod Refusal
 pub mod Later
+pub mod Packet
 pub mod Demand
 pub mod FromList

@@ -1,5 +1,6 @@
--- Rules 8.3 to 8.5: the blocks received so far, from the arguments of opening and deliveries alone. Document 01 calls them the book of a run.
+-- Rules 8.3 to 8.5: the blocks received so far, from the arguments of opening, deliveries and packets alone. Document 01 calls them the book of a run.
 use mathlib.Core.Bool.{Bool, true, false, cond, _&&_}
+use mathlib.Core.List.{List, [], _∷_}
 use mathlib.Core.Option.{Option, none, some}
 use Prim.Native.Nat.{ℕ, zero, suc, _+_}
 use lib.ListN.{length}
@@ -7,11 +8,7 @@ use lib.Dec.{eqb, ltb}
 use Rattle.lists.specs.Alias.{Bytes}
 use Rattle.format.specs.Size.{blockSize}
 use Rattle.bitmap.specs.Words.{blockCount}
-
--- what a delivery is given besides the record and the buffers
-pub record Delivery : Type 0 where
-  pub block : ℕ
-  pub piece : Bytes
+use Rattle.intake.specs.Deliver.{Delivery}
 
 -- for each number a block or none
 abbrev pub Received : Type 0
@@ -33,6 +30,11 @@ firstPiece (some first) piece = some first
 -- Rules 8.4 and 8.5: the received blocks after a delivery
 unfoldable pub receive : (len : ℕ) (d : Delivery) (r : Received) → Received
 receive len d r b = cond (brings len d && eqb b (d .block)) (firstPiece (r b) (d .piece)) (r b)
+
+-- the same after deliveries one after the other
+unfoldable pub receiveEach : (len : ℕ) (deliveries : List Delivery) (r : Received) → Received
+receiveEach len [] r = r
+receiveEach len (d ∷ rest) r = receiveEach len rest (receive len d r)
 
 -- whether there is a block
 abbrev pub has : Option Bytes → Bool

@@ -8,8 +8,9 @@ use Rattle.bitmap.specs.Count.{heldCount}
 use Rattle.intake.specs.Memory.{Memory, memory}
 use Rattle.intake.specs.Open.{opening}
 use Rattle.intake.specs.Deliver.{delivery}
-use Rattle.run.specs.Received.{Received, nothing, receive}
-use Rattle.run.specs.Call.{Call, deliver, ask}
+use Rattle.intake.specs.Packet.{packet}
+use Rattle.run.specs.Received.{Received, nothing, receiveEach}
+use Rattle.run.specs.Call.{Call, deliver, deliverPacket, ask, deliveriesOf}
 
 -- the opening is not refused
 abbrev pub Opens : (len : ℕ) (before : Memory) → Type 0
@@ -22,12 +23,12 @@ afterOpening len before = memory (before .image) (opening len (before .image) (b
 -- image and map after a call: a question writes neither
 abbrev pub afterCall : (len : ℕ) (call : Call) (m : Memory) → Memory
 afterCall len (deliver d) m = delivery len m (d .block) (d .piece) .memory
+afterCall len (deliverPacket p) m = packet len m (p .blocks) (p .pieces) (p .results) .memory
 afterCall len (ask q) m = m
 
--- Rule 8.5: the received blocks after a call
+-- Rules 8.5 and 8.16: the received blocks after a call
 abbrev pub receiveCall : (len : ℕ) (call : Call) (r : Received) → Received
-receiveCall len (deliver d) r = receive len d r
-receiveCall len (ask q) r = r
+receiveCall len call r = receiveEach len (deliveriesOf call) r
 
 -- the same after a list of calls
 unfoldable pub afterCalls : (len : ℕ) (calls : List Call) (m : Memory) → Memory
@@ -45,7 +46,7 @@ runMemory len before calls = afterCalls len calls (afterOpening len before)
 abbrev pub runReceived : (len : ℕ) (calls : List Call) → Received
 runReceived len calls = receiveCalls len calls nothing
 
--- Rule 8.9: two runs that end alike, but for the answers to questions
+-- Rule 8.9: two runs that end alike, but for the replies to a further call
 pub record EndAlike (len : ℕ) (m n : Memory) : Type 0 where
   pub image : m .image ≡ n .image
   pub map : m .map ≡ n .map

@@ -1,7 +1,7 @@
-//! An intake over a caller's image and map: deliveries and questions.
+//! An intake over a caller's image and map: deliveries, packets and questions.
 
 use crate::raw::{self, DONE, RESULT, SAME, WAITING};
-use crate::{Encoding, Record, Refusal, Rows, Table, Text};
+use crate::{DeliveredPacket, Encoding, Record, Refusal, Rows, Table, Text};
 
 /// Bytes in a block.
 pub const BLOCK: usize = 512;
@@ -190,6 +190,63 @@ impl<'a> Intake<'a> {
         match raw::deliver(self.len, self.image, self.map, block, piece, &mut result) {
             DONE => Ok(Delivered::New(result[0])),
             SAME => Ok(Delivered::Same(result[0])),
+            number => Err(Refusal::new(number, result[0])),
+        }
+    }
+
+    /// Delivers a packet of any number of blocks: block `blocks[i]` with the 512 bytes of `pieces` from `i * 512` on.
+    /// Image and map become what [`deliver`](Self::deliver) makes of them, called for one block after the other, and the
+    /// answer has its result for each. The blocks held are counted once.
+    ///
+    /// `results` takes a code for each block, at its front, and the rest of it stays; the answer reads them from there.
+    /// So a fetcher of up to 64 blocks keeps 64 numbers for it and uses them again with each packet.
+    ///
+    /// ```
+    /// # use sarvoltig::*;
+    /// # let file = std::fs::read("../tools/data/demo.pdb")?;
+    /// # let mut image = vec![0; file.len()];
+    /// # let mut map = vec![0; map_words(file.len() as u64)];
+    /// # let mut intake = Intake::open(&mut image, &mut map)?;
+    /// # let fetch = |blocks: &[u64]| {
+    /// #     let parts = blocks.iter().map(|&b| &file[b as usize * BLOCK..][..BLOCK]);
+    /// #     parts.collect::<Vec<_>>().concat()
+    /// # };
+    /// let mut results = [0; 64];
+    /// let blocks = [7, 3, 7, 0];
+    /// let pieces = fetch(&blocks);
+    /// let packet = intake.deliver_packet(&blocks, &pieces, &mut results)?;
+    /// assert_eq!(packet.held(), 3);
+    /// for (block, result) in blocks.iter().zip(packet) {
+    ///     match result {
+    ///         Ok(Accepted::New) => println!("block {block} is there"),
+    ///         Ok(Accepted::Same) => println!("block {block} was there"),
+    ///         Err(refusal) => println!("block {block} is refused: {refusal}"),
+    ///     }
+    /// }
+    /// # Ok::<(), Box<dyn std::error::Error>>(())
+    /// ```
+    ///
+    /// # Errors
+    /// Refusals 1 to 4, 6 where the pieces are not 512 bytes for each block, and 17, with the number of blocks, where
+    /// `results` is shorter than that. They refuse the packet whole: image, map and results stay. In a packet that is not
+    /// refused a block may be, by 5 or 7 in its own result; that stops none of the others.
+    pub fn deliver_packet<'r>(
+        &mut self,
+        blocks: &[u64],
+        pieces: &[u8],
+        results: &'r mut [u32],
+    ) -> Result<DeliveredPacket<'r>, Refusal> {
+        let mut result = [0; 1];
+        match raw::packet(
+            self.len,
+            self.image,
+            self.map,
+            blocks,
+            pieces,
+            results,
+            &mut result,
+        ) {
+            DONE => Ok(DeliveredPacket::new(result[0], &results[..blocks.len()])),
             number => Err(Refusal::new(number, result[0])),
         }
     }

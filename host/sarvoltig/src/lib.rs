@@ -1,10 +1,11 @@
 //! A proved reader of rekordbox files: of `export.pdb` files that arrive in blocks of 512 bytes, late, repeated,
 //! misnumbered or cut, and of the beat grid of whole ANLZ files.
 //!
-//! An [`Intake`] stands over an image and a map that the caller owns. Blocks are delivered as they come, and questions
-//! are asked at any time: all rows of a table, a record, a string of a record. An answer is complete, or waits at the
-//! first page that is not wholly there, or is a [`Refusal`], which changes no memory. A question for one record walks its
-//! whole table; the rows of [`Intake::rows`] are read from their list, each on its own page.
+//! An [`Intake`] stands over an image and a map that the caller owns. Blocks are delivered as they come, one by one or
+//! many in a packet ([`Intake::deliver_packet`]), and questions are asked at any time: all rows of a table, a record, a
+//! string of a record. An answer is complete, or waits at the first page that is not wholly there, or is a [`Refusal`],
+//! which changes no memory. A question for one record walks its whole table; the rows of [`Intake::rows`] are read from
+//! their list, each on its own page.
 //!
 //! [`Anlz`] stands over the bytes of an ANLZ file and answers its number of beats and each beat, or refuses.
 //!
@@ -32,6 +33,7 @@
 
 mod anlz;
 mod intake;
+mod packet;
 pub mod raw;
 mod record;
 mod refusal;
@@ -41,6 +43,7 @@ mod text;
 
 pub use anlz::{Anlz, Beat, BeatIter};
 pub use intake::{map_words, Delivered, Intake, Reply, Walk, BLOCK};
+pub use packet::{Accepted, BlockIter, DeliveredPacket};
 pub use record::{Record, Track};
 pub use refusal::Refusal;
 pub use rows::{Row, RowIter, Rows};

@@ -1,11 +1,11 @@
-//! The nine functions of the proved library over numbers and slices, as `include/sarvoltig.h` has them.
+//! The ten functions of the proved library over numbers and slices, as `include/sarvoltig.h` has them.
 //!
 //! Each returns a code: [`DONE`], [`SAME`], [`WAITING`], or a refusal's number. The answer's values go to the
 //! front of `result`, as many as it takes; [`RESULT`] words take every answer.
 
 /// Words that take the values of every answer: the 22 numbers of a track.
 pub const RESULT: usize = 22;
-/// Code of Open, New, Full, Found, and of a number of beats.
+/// Code of Open, New, Full, Found, of a packet that is not refused, and of a number of beats.
 pub const DONE: u32 = 0;
 /// Code of a delivery of a held block with the same bytes.
 pub const SAME: u32 = 64;
@@ -33,6 +33,21 @@ mod c {
             block: u64,
             piece: *const u8,
             piece_len: usize,
+            result: *mut u64,
+            result_len: usize,
+        ) -> u32;
+        pub fn sarvoltig_packet(
+            len: u64,
+            image: *mut u8,
+            image_len: usize,
+            map: *mut u64,
+            map_len: usize,
+            blocks: *const u64,
+            blocks_len: usize,
+            pieces: *const u8,
+            pieces_len: usize,
+            codes: *mut u32,
+            codes_len: usize,
             result: *mut u64,
             result_len: usize,
         ) -> u32;
@@ -150,6 +165,52 @@ pub fn deliver(
             block,
             piece.as_ptr(),
             piece.len(),
+            result.as_mut_ptr(),
+            result.len(),
+        )
+    }
+}
+
+/// Delivers a packet: the blocks of these numbers, with their pieces end to end. Value: the held count.
+///
+/// The code of each block goes to the front of `codes`: [`DONE`], [`SAME`], 5 or 7.
+///
+/// ```
+/// use sarvoltig::raw::{packet, DONE, SAME};
+///
+/// let (mut image, mut map) = ([0; 1024], [0; 1]);
+/// let (mut codes, mut result) = ([9; 4], [0; 1]);
+/// let pieces = [7; 3 * 512];
+/// let code = packet(1024, &mut image, &mut map, &[1, 1, 2], &pieces, &mut codes, &mut result);
+/// assert_eq!((code, result), (DONE, [1]));
+/// assert_eq!(codes, [DONE, SAME, 5, 9]);
+/// // one byte is missing
+/// let code = packet(1024, &mut image, &mut map, &[0], &pieces[..511], &mut codes, &mut result);
+/// assert_eq!((code, result), (6, [0]));
+/// ```
+pub fn packet(
+    len: u64,
+    image: &mut [u8],
+    map: &mut [u64],
+    blocks: &[u64],
+    pieces: &[u8],
+    codes: &mut [u32],
+    result: &mut [u64],
+) -> u32 {
+    // SAFETY: as in `open`.
+    unsafe {
+        c::sarvoltig_packet(
+            len,
+            image.as_mut_ptr(),
+            image.len(),
+            map.as_mut_ptr(),
+            map.len(),
+            blocks.as_ptr(),
+            blocks.len(),
+            pieces.as_ptr(),
+            pieces.len(),
+            codes.as_mut_ptr(),
+            codes.len(),
             result.as_mut_ptr(),
             result.len(),
         )

@@ -3,7 +3,8 @@
 use std::error::Error;
 use std::fmt;
 
-/// Why a call was refused. A refusal changes no borrowed memory.
+/// Why a call was refused, or a block of a packet. A refusal changes no borrowed memory but, for a block of a packet, its
+/// own result.
 ///
 /// ```
 /// use sarvoltig::{Intake, Refusal};
@@ -27,7 +28,7 @@ pub enum Refusal {
     MapSpare,
     /// 5: the block number is past the last block.
     BlockNumber,
-    /// 6: the piece is not 512 bytes.
+    /// 6: the piece is not 512 bytes, or the pieces of a packet are not 512 bytes for each block.
     PieceSize,
     /// 7: the block is held with other bytes.
     BlockDiffers,
@@ -49,7 +50,7 @@ pub enum Refusal {
     TextFault(u64),
     /// 16: the chain meets a page twice.
     ChainLoop,
-    /// 17: the list is too short; the rows found.
+    /// 17: the list is too short; the rows found, or the number of blocks for the results of a packet.
     ListShort(u64),
     /// 18: the table has no such row, the list does not have it there, or the beat grid has no such beat.
     NoRow,
@@ -139,7 +140,7 @@ impl Refusal {
         }
     }
 
-    /// What it carries: a page, the rows found, or 0.
+    /// What it carries: a page, the rows found, the number of blocks in a packet, or 0.
     #[must_use]
     pub fn carries(self) -> u64 {
         match self {
@@ -176,7 +177,7 @@ impl fmt::Display for Refusal {
             Self::MapShort => write!(f, "the map is too short"),
             Self::MapSpare => write!(f, "the map has a bit past the last block"),
             Self::BlockNumber => write!(f, "the block number is past the last block"),
-            Self::PieceSize => write!(f, "the piece is not 512 bytes"),
+            Self::PieceSize => write!(f, "there are not 512 bytes for each block"),
             Self::BlockDiffers => write!(f, "the block is held with other bytes"),
             Self::TableType => write!(f, "the table type is not one of the ten"),
             Self::FileHeader => write!(f, "the file header is broken"),
@@ -188,7 +189,9 @@ impl fmt::Display for Refusal {
             Self::RowShort(page) => write!(f, "a row of page {page} does not fit"),
             Self::TextFault(page) => write!(f, "a string of page {page} is malformed"),
             Self::ChainLoop => write!(f, "the chain meets a page twice"),
-            Self::ListShort(rows) => write!(f, "the list is too short for {rows} rows"),
+            Self::ListShort(needed) => {
+                write!(f, "the list is too short, it needs {needed} elements")
+            }
             Self::NoRow => write!(f, "there is no such row or beat"),
             Self::NoSlot => write!(f, "the table has no such string slot"),
             Self::AnlzHeader => write!(f, "the header of the ANLZ file is broken"),

@@ -143,7 +143,7 @@ impl Library {
     /// # Errors
     /// [`Failure`].
     pub fn make(&mut self, call: &Call) -> Result<Option<Answer>, Failure> {
-        let mut list = Vec::new();
+        let mut list = filled(room(call), |_| UNWRITTEN)?;
         let reply = match *call {
             Call::Lend { image, words } => {
                 return self.replace_buffers(image, words).map(|()| None)
@@ -163,10 +163,12 @@ impl Library {
             }
             Call::Open { len } => self.open(len)?,
             Call::Deliver { block, ref piece } => self.deliver(block, piece)?,
-            Call::Rows { table, room } => {
-                list = filled(room, |_| UNWRITTEN)?;
-                self.rows(table, &mut list)?
-            }
+            Call::Packet {
+                ref blocks,
+                ref pieces,
+                ..
+            } => self.packet(blocks, pieces, &mut list)?,
+            Call::Rows { table, .. } => self.rows(table, &mut list)?,
             Call::Record { table, k } => self.record(table, k)?,
             Call::Text { table, k, slot } => self.text(table, k, slot)?,
             Call::RecordIn { table, i } => self.record_in(table, i)?,
@@ -218,6 +220,20 @@ impl Library {
         })
     }
 
+    fn packet(
+        &mut self,
+        blocks: &[u64],
+        pieces: &[u8],
+        codes: &mut [u32],
+    ) -> Result<Result<Reply, Refusal>, Failure> {
+        // Memory of their own lengths, so that valgrind sees what is read behind them.
+        let (blocks, pieces) = (blocks.to_vec(), pieces.to_vec());
+        let (image, map) = (&mut self.image, &mut self.map);
+        let coded =
+            Coded::of(|result| raw::packet(self.len, image, map, &blocks, &pieces, codes, result));
+        coded.answer(|c| (c.code == DONE).then(|| Ok(Reply::Held(c.values(1)?[0]))))
+    }
+
     fn rows(&self, table: u32, list: &mut [u32]) -> Result<Result<Reply, Refusal>, Failure> {
         let coded =
             Coded::of(|result| raw::rows(self.len, &self.image, &self.map, table, list, result));
@@ -263,6 +279,14 @@ impl Library {
     fn beat(&self, k: u64) -> Result<Result<Reply, Refusal>, Failure> {
         let coded = Coded::of(|result| raw::beat(&self.anlz, k, result));
         coded.answer(|c| (c.code == DONE).then(|| c.values(3).and_then(found_beat)))
+    }
+}
+
+/// The length of the list that a call writes to; 0 for a call without one.
+fn room(call: &Call) -> usize {
+    match *call {
+        Call::Rows { room, .. } | Call::Packet { room, .. } => room,
+        _ => 0,
     }
 }
 

@@ -56,6 +56,59 @@ fn the_demo_ends_with_the_playlists() {
     assert_eq!(tail(&usual), tail(&harsh));
 }
 
+/// What the demo prints of the stored export: the pictures, and the playlists.
+fn demo_of_packets(words: &[&str]) -> (String, String) {
+    let path = stored_export();
+    let output = demo(&[&[path.to_str().expect("text")], words].concat());
+    assert!(output.status.success());
+    let text = String::from_utf8(output.stdout).expect("text");
+    let (pictures, playlists) = text.split_once("\n\n").expect("the playlists");
+    (pictures.to_string(), playlists.to_string())
+}
+
+#[test]
+fn the_demo_takes_packets() {
+    let (pictures, playlists) = demo_of_packets(&[]);
+    assert!(!pictures.contains("packets"), "{pictures}");
+    for most in ["1", "8", "64", "18446744073709551615"] {
+        for words in [&["--packet", most][..], &["--packet", most, "--harsh"]] {
+            let (pictures, listed) = demo_of_packets(words);
+            assert!(pictures.contains("54 of 54 blocks held; 54 new"));
+            assert_eq!(listed, playlists, "{words:?}");
+        }
+    }
+    let (pictures, _) = demo_of_packets(&["--packet", "8"]);
+    let last = pictures.lines().rfind(|line| line.contains("packets"));
+    assert_eq!(last, Some("  packets: 7, refused whole: 0"));
+    // one piece is cut, and the packet that it came with is sent again
+    let (pictures, _) = demo_of_packets(&["--packet", "8", "--harsh"]);
+    let last = pictures.lines().rfind(|line| line.contains("packets"));
+    assert_eq!(last, Some("  packets: 10, refused whole: 1"));
+}
+
+#[test]
+fn the_demo_says_which_option_is_wrong() {
+    let wrong = [
+        (&["--packet"][..], "--packet takes a number from 1 on\n"),
+        (
+            &["--packet", "0"],
+            "--packet takes a number from 1 on, not \"0\"\n",
+        ),
+        (
+            &["--packet", "-1"],
+            "--packet takes a number from 1 on, not \"-1\"\n",
+        ),
+        (&["--late", "x"], "--late takes a number, not \"x\"\n"),
+        (&["--packets", "8"], "\"--packets\" is no option\n"),
+    ];
+    for (words, line) in wrong {
+        let output = demo(&[&["file"], words].concat());
+        assert_eq!(output.status.code(), Some(2), "{words:?}");
+        let error = String::from_utf8_lossy(&output.stderr);
+        assert!(error.starts_with(&format!("demo: {line}usage: demo FILE ")));
+    }
+}
+
 /// Where the rows of an export's tracks start.
 fn tracks(file: &[u8]) -> Vec<usize> {
     let mut image = vec![0; file.len()];
@@ -145,22 +198,43 @@ fn the_demo_ends_quietly_when_nobody_reads() {
     assert_eq!(String::from_utf8_lossy(&output.stderr), "");
 }
 
-#[test]
-fn replay_reads_standard_input() {
+/// What `replay` prints for these calls, and its exit status.
+fn replay(calls: &str) -> (String, Option<i32>) {
     let mut replay = Command::new(env!("CARGO_BIN_EXE_replay"))
         .stdin(Stdio::piped())
         .stdout(Stdio::piped())
         .spawn()
         .expect("replay runs");
     let mut input = replay.stdin.take().expect("a pipe");
-    input
-        .write_all(b"lend 512 1\nopen 512 0\nbye")
-        .expect("written");
+    input.write_all(calls.as_bytes()).expect("written");
     drop(input);
     let output = replay.wait_with_output().expect("an end");
-    assert_eq!(output.status.code(), Some(2));
-    let text = String::from_utf8_lossy(&output.stdout);
-    assert_eq!(text, "open 1 lent 83df2ef5\nline 3\n");
+    let text = String::from_utf8(output.stdout).expect("text");
+    (text, output.status.code())
+}
+
+#[test]
+fn replay_reads_standard_input() {
+    let answers = "open 1 lent 83df2ef5\nline 3\n".to_string();
+    assert_eq!(replay("lend 512 1\nopen 512 0\nbye"), (answers, Some(2)));
+}
+
+#[test]
+fn replay_plays_packets() {
+    let three = "00".repeat(3 * BLOCK);
+    let calls = format!(
+        "lend 512 1\nopen 512 0\npacket 0 4 0,0,1 {three}\npacket 7 2 0,0,1 {three}\n\
+         packet 0 0 - -\npacket 0 1 0 00\npacket 0 1 0\n"
+    );
+    let answers = "\
+open 1 lent 83df2ef5
+held 1 lent fad0c4a6
+refused 17 3 0 lent ecee918e
+held 1 lent baedc3a2
+refused 6 0 0 lent 87382b04
+line 7
+";
+    assert_eq!(replay(&calls), (answers.to_string(), Some(2)));
 }
 
 #[test]

@@ -5,6 +5,7 @@ mod chain;
 mod contents;
 mod directory;
 mod listed;
+mod packet;
 mod page;
 mod question;
 mod received;

@@ -8,7 +8,7 @@ use super::session::block_count;
 use super::source::Source;
 use super::{Refusal, BLOCK_SIZE};
 
-/// The received blocks of a run, kept from the arguments of its opening and deliveries.
+/// The received blocks of a run, kept from the arguments of its opening, deliveries and packets.
 /// The questions are answered from L, the received blocks and the list.
 ///
 /// ```
@@ -50,12 +50,48 @@ impl Received {
         }
     }
 
+    /// Enters a packet with a list of `room` results: each of its blocks is a
+    /// delivery, but a packet that is refused whole brings none.
+    ///
+    /// ```
+    /// # use sarvoltig_reference::model::Received;
+    /// let mut received = Received::open(1024)?;
+    /// let pieces = [[7; 512], [8; 512], [9; 512]].concat();
+    /// received.deliver_packet(&[1, 2, 1], &pieces, 2);
+    /// assert_eq!(received.held_count(), 0);
+    /// received.deliver_packet(&[1, 2, 1], &pieces, 3);
+    /// assert_eq!(received.block(1), Some(&[7; 512]));
+    /// assert_eq!(received.held_count(), 1);
+    /// # Ok::<(), sarvoltig_reference::model::Refusal>(())
+    /// ```
+    pub fn deliver_packet(&mut self, blocks: &[u64], pieces: &[u8], room: usize) {
+        let pieces: Vec<&[u8]> = pieces.chunks(BLOCK_SIZE).collect();
+        let one_each =
+            pieces.len() == blocks.len() && pieces.iter().all(|piece| piece.len() == BLOCK_SIZE);
+        if one_each && blocks.len() <= room {
+            for (block, piece) in blocks.iter().zip(pieces) {
+                self.deliver(*block, piece);
+            }
+        }
+    }
+
     /// The block of a number, if it is received.
     pub fn block(&self, block: usize) -> Option<&[u8; BLOCK_SIZE]> {
         self.blocks.get(block)?.as_ref()
     }
 
-    /// How many they are.
+    /// B, the number of blocks that the file has.
+    ///
+    /// ```
+    /// # use sarvoltig_reference::model::Received;
+    /// assert_eq!(Received::open(1024)?.block_count(), 2);
+    /// # Ok::<(), sarvoltig_reference::model::Refusal>(())
+    /// ```
+    pub fn block_count(&self) -> u64 {
+        self.blocks.len() as u64
+    }
+
+    /// How many are received.
     pub fn held_count(&self) -> u64 {
         self.blocks.iter().flatten().count() as u64
     }

@@ -14,7 +14,7 @@ use std::{error, fmt};
 pub struct Refusal {
     /// 1 to 24.
     pub number: u8,
-    /// A page for 11 to 15, the rows found for 17, else 0.
+    /// A page for 11 to 15; for 17 the rows found, or the blocks of a packet; else 0.
     pub carries: u64,
 }
 

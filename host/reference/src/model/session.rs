@@ -340,7 +340,7 @@ impl Session {
     }
 
     /// Rules 2.1 to 2.4 for the record; gives B.
-    fn check_intake(&self) -> Result<u64, Refusal> {
+    pub(super) fn check_intake(&self) -> Result<u64, Refusal> {
         let blocks = self.check_sizes(self.file_len)?;
         if spare_bit_set(&self.map, blocks) {
             return Err(Refusal::plain(4));
@@ -381,7 +381,7 @@ fn is_held(map: &[u64], block: usize) -> bool {
 }
 
 /// Rule 1.17.
-fn held_count(map: &[u64], blocks: u64) -> u64 {
+pub(super) fn held_count(map: &[u64], blocks: u64) -> u64 {
     map[..counted_words(blocks)]
         .iter()
         .map(|word| u64::from(word.count_ones()))

@@ -29,6 +29,8 @@ pub enum Reply {
     Open(u64),
     /// To a delivery.
     Delivered(Delivered),
+    /// To a packet: the held count.
+    Held(u64),
     /// To the question for all rows.
     Rows(Rows),
     /// To the question for a record, with the type asked.
@@ -56,6 +58,7 @@ impl fmt::Display for Reply {
             Reply::Open(blocks) => write!(f, "open {blocks}"),
             Reply::Delivered(Delivered::New(held)) => write!(f, "new {held}"),
             Reply::Delivered(Delivered::Same(held)) => write!(f, "same {held}"),
+            Reply::Held(held) => write!(f, "held {held}"),
             Reply::Rows(Rows::Full { rows, pages }) => {
                 write!(f, "done rows {rows} pages {pages}")
             }

@@ -25,6 +25,11 @@ impl Call {
             Call::Word { i, value } => format!("word {i} {value}"),
             Call::Open { len } => format!("open {len} {FETCH}"),
             Call::Deliver { block, piece } => format!("deliver {block} {FETCH} {}", hex(piece)),
+            Call::Packet {
+                room,
+                blocks,
+                pieces,
+            } => format!("packet {FETCH} {room} {} {}", numbers(blocks), hex(pieces)),
             Call::Rows { table, room } => format!("rows {} {room}", narrow(*table)?),
             Call::Record { table, k } => format!("record {} {k}", narrow(*table)?),
             Call::Text { table, k, slot } => format!("string {} {k} {slot}", narrow(*table)?),
@@ -58,17 +63,7 @@ impl Call {
                 i: number(i)?,
                 value: number(value)?,
             },
-            ["open", len, fetch] => {
-                number::<u64>(fetch)?;
-                Call::Open { len: number(len)? }
-            }
-            ["deliver", block, fetch, piece] => {
-                number::<u64>(fetch)?;
-                Call::Deliver {
-                    block: number(block)?,
-                    piece: bytes(piece)?,
-                }
-            }
+            ["open" | "deliver" | "packet", ..] => parse_fetched(&words)?,
             ["list", places] => Call::List {
                 places: list(places)?,
             },
@@ -80,6 +75,28 @@ impl Call {
         };
         Some(call)
     }
+}
+
+/// The call of a line with a fetch number.
+fn parse_fetched(words: &[&str]) -> Option<Call> {
+    let (fetch, call) = match *words {
+        ["open", len, fetch] => (fetch, Call::Open { len: number(len)? }),
+        ["deliver", block, fetch, piece] => {
+            let block = number(block)?;
+            let piece = bytes(piece)?;
+            (fetch, Call::Deliver { block, piece })
+        }
+        ["packet", fetch, room, blocks, pieces] => {
+            let call = Call::Packet {
+                room: number(room)?,
+                blocks: list(blocks)?,
+                pieces: bytes(pieces)?,
+            };
+            (fetch, call)
+        }
+        _ => return None,
+    };
+    number::<u64>(fetch).map(|_| call)
 }
 
 /// The question of a line's words.
@@ -128,15 +145,15 @@ fn number<T: FromStr>(word: &str) -> Option<T> {
 }
 
 /// Numbers with commas between them.
-fn numbers(numbers: &[u32]) -> String {
+fn numbers<T: ToString>(numbers: &[T]) -> String {
     if numbers.is_empty() {
         return "-".to_string();
     }
-    let words: Vec<String> = numbers.iter().map(u32::to_string).collect();
+    let words: Vec<String> = numbers.iter().map(T::to_string).collect();
     words.join(",")
 }
 
-fn list(word: &str) -> Option<Vec<u32>> {
+fn list<T: FromStr>(word: &str) -> Option<Vec<T>> {
     match word {
         "-" => Some(Vec::new()),
         _ => word.split(',').map(number).collect(),

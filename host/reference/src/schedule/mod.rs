@@ -51,6 +51,15 @@ pub enum Call {
         /// The bytes that it brings.
         piece: Vec<u8>,
     },
+    /// A packet of blocks.
+    Packet {
+        /// The length of the result list.
+        room: usize,
+        /// The blocks' numbers.
+        blocks: Vec<u64>,
+        /// The bytes that they bring, end to end.
+        pieces: Vec<u8>,
+    },
     /// The question for all rows.
     Rows {
         /// The type asked.

@@ -1,6 +1,7 @@
 //! Makes runs of calls.
 
 mod lists;
+mod packets;
 
 use std::collections::BTreeSet;
 
@@ -111,9 +112,9 @@ fn blocks_of_chains(file: &[u8], rng: &mut Rng) -> Vec<u64> {
     blocks.into_iter().collect()
 }
 
-/// A run of calls that brings the blocks of `export` in some order, with
-/// questions in between, lists that some of them read from, and calls that
-/// are refused.
+/// A run of calls that brings the blocks of `export` in some order, singly and
+/// in packets, with questions in between, lists that some of them read from,
+/// and calls that are refused.
 ///
 /// ```
 /// use sarvoltig_reference::{generate, rng::Rng, schedule::{schedule, Call}};
@@ -133,6 +134,7 @@ fn run_with(export: &[u8], blocks: Vec<u64>, rng: &mut Rng) -> Vec<Call> {
         rare: rng.below(12),
         tables: pointers.into_iter().map(|(table, _)| table).collect(),
         events_in: EVENTS_IN.max(blocks.len() as u64 / 8),
+        packets_in_8: rng.pick(&[0, 1, 1, 8]),
         rng,
         export,
         run: Run::new(Session::new(Vec::new(), Vec::new())),
@@ -140,9 +142,8 @@ fn run_with(export: &[u8], blocks: Vec<u64>, rng: &mut Rng) -> Vec<Call> {
         calls: Vec::new(),
     };
     planner.start();
-    for block in planner.arrivals(blocks) {
-        planner.arrival(block);
-    }
+    let arrivals = planner.arrivals(blocks);
+    planner.bring(&arrivals);
     for table in Table::ALL {
         if planner.tables.contains(&table) || planner.rng.chance(1, 8) {
             planner.ask_about(u32::from(table.number()));
@@ -151,7 +152,7 @@ fn run_with(export: &[u8], blocks: Vec<u64>, rng: &mut Rng) -> Vec<Call> {
     planner.calls
 }
 
-/// In so many arrivals there are 18 other events, fewer in long runs.
+/// In so many arrivals there are 20 other events, fewer in long runs.
 const EVENTS_IN: u64 = 40;
 
 struct Planner<'a> {
@@ -166,6 +167,8 @@ struct Planner<'a> {
     /// Which of the rare events this run has; most runs have none.
     rare: u64,
     events_in: u64,
+    /// Of 8 arrivals so many are packets.
+    packets_in_8: u64,
 }
 
 impl Planner<'_> {
@@ -191,6 +194,7 @@ impl Planner<'_> {
         if self.rng.chance(1, 4) {
             self.buffers_too_short();
             self.any_question();
+            self.any_packet();
             self.open();
             self.open_any();
             self.any_question();
@@ -199,6 +203,7 @@ impl Planner<'_> {
         if self.rng.chance(1, 8) {
             self.any_question();
             self.deliver_right(0);
+            self.any_packet();
             self.open_any();
         }
         self.open();
@@ -267,11 +272,33 @@ impl Planner<'_> {
         blocks
     }
 
+    /// Brings the blocks in this order, with other events in between.
+    fn bring(&mut self, mut blocks: &[u64]) {
+        while let Some((first, rest)) = blocks.split_first() {
+            if !self.rng.chance(self.packets_in_8, 8) {
+                self.arrival(*first);
+                self.event();
+                blocks = rest;
+                continue;
+            }
+            let size = self.packet_size().min(blocks.len());
+            let (packet, later) = blocks.split_at(size);
+            self.packet_arrival(packet);
+            for _ in 0..size.div_ceil(2) {
+                self.event();
+            }
+            blocks = later;
+        }
+    }
+
     fn arrival(&mut self, block: u64) {
         if self.rng.chance(1, 500) {
             self.deliver_other(block);
         }
         self.deliver_right(block);
+    }
+
+    fn event(&mut self) {
         match self.rng.below(self.events_in) {
             0..=4 => self.repeat(),
             5..=7 => {
@@ -282,6 +309,8 @@ impl Planner<'_> {
             9 => self.deliver_wrong_size(),
             10..=16 => self.any_question(),
             17 => self.rare_event(),
+            18 => self.any_packet(),
+            19 => self.empty_packet(),
             _ => {}
         }
     }
@@ -296,22 +325,35 @@ impl Planner<'_> {
     }
 
     /// A block of the right size with one byte changed.
-    fn deliver_other(&mut self, block: u64) {
+    fn other_piece(&mut self, block: u64) -> Vec<u8> {
         let mut piece = self.piece(block);
+        self.change_byte(&mut piece);
+        piece
+    }
+
+    fn change_byte(&mut self, piece: &mut [u8]) {
         let at = match self.rng.below(4) {
             0 => 0,
-            1 => BLOCK_SIZE - 1,
-            _ => self.rng.index(BLOCK_SIZE),
+            1 => piece.len() - 1,
+            _ => self.rng.index(piece.len()),
         };
         piece[at] ^= 1 << self.rng.below(8);
+    }
+
+    fn deliver_other(&mut self, block: u64) {
+        let piece = self.other_piece(block);
         self.make(Call::Deliver { block, piece });
     }
 
     fn deliver_other_if_held(&mut self, block: u64) {
-        let word = self.run.session().map()[block as usize / 64];
-        if word >> (block % 64) & 1 == 1 {
+        if self.is_held(block) {
             self.deliver_other(block);
         }
+    }
+
+    fn is_held(&self, block: u64) -> bool {
+        let word = self.run.session().map().get(block as usize / 64);
+        word.is_some_and(|word| word >> (block % 64) & 1 == 1)
     }
 
     fn repeat(&mut self) {
@@ -320,13 +362,10 @@ impl Planner<'_> {
     }
 
     fn deliver_past_end(&mut self) {
-        let blocks = self.blocks();
         if self.rng.chance(1, 2) {
             return self.deliver_with_high_bit();
         }
-        let block = self
-            .rng
-            .pick(&[blocks, blocks + 1, blocks + 64, 1 << 32, u64::MAX]);
+        let block = self.number_past_end();
         let len = self.rng.pick(&[BLOCK_SIZE, BLOCK_SIZE, 3]);
         let piece = self.rng.bytes(len);
         self.make(Call::Deliver { block, piece });
@@ -336,8 +375,19 @@ impl Planner<'_> {
     fn deliver_with_high_bit(&mut self) {
         let right = self.rng.below(self.blocks());
         let piece = self.piece(right);
-        let block = right | 1 << self.rng.pick(&[20, 24, 31, 32, 63]);
+        let block = right | self.high_bit();
         self.make(Call::Deliver { block, piece });
+    }
+
+    fn number_past_end(&mut self) -> u64 {
+        let blocks = self.blocks();
+        let numbers = [blocks, blocks + 1, blocks + 64, 1 << 32, 1 << 63, u64::MAX];
+        self.rng.pick(&numbers)
+    }
+
+    /// A bit that no block's number has.
+    fn high_bit(&mut self) -> u64 {
+        1 << self.rng.pick(&[20, 24, 31, 32, 63])
     }
 
     /// The number with a bit set above the lowest eight.
@@ -374,6 +424,9 @@ impl Planner<'_> {
         });
         self.repeat();
         self.any_question();
+        for _ in 0..4 {
+            self.any_packet();
+        }
         self.make(Call::Word {
             i: last as u64,
             value: before,
@@ -397,6 +450,9 @@ impl Planner<'_> {
         }
         self.any_question();
         self.repeat();
+        for _ in 0..4 {
+            self.any_packet();
+        }
         self.fresh_buffers();
         if self.rng.chance(3, 4) {
             self.open();

@@ -71,31 +71,24 @@ impl Call {
 
     /// Makes the call; `written` becomes the list that it writes to, if it has one.
     fn reply(&self, run: &mut Run, written: &mut Vec<u32>) -> Option<Result<Reply, Refusal>> {
-        let Run {
-            session,
-            list,
-            anlz,
-        } = run;
+        let (session, list, anlz) = (&mut run.session, &run.list, &run.anlz);
         Some(match *self {
-            Call::Lend { image, words } => {
-                session.replace_buffers(fresh_image(image), fresh_map(words));
-                return None;
-            }
-            Call::Word { i, value } => {
-                session.write_word(i, value);
-                return None;
-            }
-            Call::List { ref places } => {
-                list.clone_from(places);
-                return None;
-            }
-            Call::Anlz { ref file } => {
-                anlz.clone_from(file);
+            Call::Lend { .. } | Call::Word { .. } | Call::List { .. } | Call::Anlz { .. } => {
+                self.prepare(run);
                 return None;
             }
             Call::Open { len } => session.open(len).map(Reply::Open),
             Call::Deliver { block, ref piece } => {
                 session.deliver(block, piece).map(Reply::Delivered)
+            }
+            Call::Packet {
+                room,
+                ref blocks,
+                ref pieces,
+            } => {
+                written.resize(room, LIST_FILL);
+                let held = session.deliver_packet(blocks, pieces, written);
+                held.map(Reply::Held)
             }
             Call::Rows { table, room } => {
                 written.resize(room, LIST_FILL);
@@ -114,6 +107,19 @@ impl Call {
             Call::Beats => anlz::beats(anlz).map(Reply::Beats),
             Call::Beat { k } => anlz::beat(anlz, k).map(Reply::Beat),
         })
+    }
+
+    /// Does what is done between calls.
+    fn prepare(&self, run: &mut Run) {
+        match *self {
+            Call::Lend { image, words } => run
+                .session
+                .replace_buffers(fresh_image(image), fresh_map(words)),
+            Call::Word { i, value } => run.session.write_word(i, value),
+            Call::List { ref places } => run.list.clone_from(places),
+            Call::Anlz { ref file } => run.anlz.clone_from(file),
+            _ => {}
+        }
     }
 }
 

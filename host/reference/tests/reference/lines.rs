@@ -100,6 +100,51 @@ fn other_lines_about_an_anlz_file_are_no_calls() {
 }
 
 #[test]
+fn other_lines_about_a_packet_are_no_calls() {
+    let lines = [
+        "packet",
+        "packet 0 0 -",
+        "packet 0 0 - - -",
+        "packet 0 0 -  -",
+        "packet 0 0 - ",
+        "packet - 0 - -",
+        "packet 0 - - -",
+        "packet 0 0 , -",
+        "packet 0 0 1, -",
+        "packet 0 0 1,,2 -",
+        "packet 0 0 -,1 -",
+        "packet 0 0 18446744073709551616 -",
+        "packet 18446744073709551616 0 - -",
+        "packet 0 18446744073709551616 - -",
+        "packet 0 0 - abc",
+        "packet 0 0 - 0g",
+        "Packet 0 0 - -",
+    ];
+    for line in lines {
+        assert_eq!(Call::parse_line(line), None, "{line}");
+    }
+}
+
+#[test]
+fn packets_have_64_bit_numbers_and_any_fetch_number() {
+    let call = Call::Packet {
+        room: 3,
+        blocks: vec![0, u64::MAX],
+        pieces: vec![0x0a, 0xff],
+    };
+    let line = "packet 0 3 0,18446744073709551615 0aff";
+    assert_eq!(call.to_line().as_deref(), Some(line));
+    assert_eq!(Call::parse_line(&line.replace("t 0", "t 7")), Some(call));
+    let empty = Call::Packet {
+        room: 0,
+        blocks: vec![],
+        pieces: vec![],
+    };
+    assert_eq!(empty.to_line().as_deref(), Some("packet 0 0 - -"));
+    assert_eq!(Call::parse_line("packet 0 0 - -"), Some(empty));
+}
+
+#[test]
 fn anlz_files_replay_without_a_checksum() {
     let input = [
         "beats",
@@ -235,6 +280,40 @@ text 1085 4 ascii lent 14ec8d81
 record 1 7 lent 14ec8d81
 wait page 1 rows 0 pages 0 lent 14ec8d81
 refused 18 0 0 lent 14ec8d81
+";
+    let replayed = replay(&input.join("\n"));
+    assert_eq!((replayed.output.as_str(), replayed.status), (output, 0));
+}
+
+/// The CRCs were computed by another program.
+#[test]
+fn packets_replay_with_the_checksum_of_their_results() {
+    let packet = |room: usize, blocks: &[u64], pieces: &[usize]| {
+        let file = case_d();
+        let pieces = pieces.iter().flat_map(|piece| &file[512 * piece..][..512]);
+        let call = Call::Packet {
+            room,
+            blocks: blocks.to_vec(),
+            pieces: pieces.copied().collect(),
+        };
+        call.to_line().expect("a packet has a line")
+    };
+    let input = [
+        "lend 1600 2",
+        "open 1536 0",
+        &packet(5, &[2, 3, 2], &[2, 2, 2]),
+        &packet(2, &[], &[]),
+        &packet(1, &[0, 1], &[0, 1]),
+        &packet(1, &[0, 1], &[0]),
+        &packet(2, &[1, 2], &[1, 1]),
+    ];
+    let output = "\
+open 3 lent b9d2e835
+held 1 lent 9c9b6166
+held 1 lent 2a16081d
+refused 17 2 0 lent d839e694
+refused 6 0 0 lent d839e694
+held 2 lent 33b4be31
 ";
     let replayed = replay(&input.join("\n"));
     assert_eq!((replayed.output.as_str(), replayed.status), (output, 0));

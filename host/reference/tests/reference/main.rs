@@ -6,6 +6,7 @@ mod examples;
 mod generated;
 mod lines;
 mod listed;
+mod packets;
 mod refusals;
 mod runs;
 

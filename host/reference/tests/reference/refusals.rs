@@ -27,8 +27,8 @@ fn differing<T: PartialEq>([before, after]: [impl Iterator<Item = T>; 2]) -> Vec
         .collect()
 }
 
-/// What a call may write, by its answer.
-fn check_writes(before: &Session, after: &Session, call: &Call, answer: &Answer) {
+/// What a call may write to image and map, by its answer.
+fn check_buffers(before: &Session, after: &Session, call: &Call, answer: &Answer) {
     let (blocks, words) = differences(before, after);
     match (&answer.reply, call) {
         (Ok(Reply::Open(count)), _) => {
@@ -39,18 +39,31 @@ fn check_writes(before: &Session, after: &Session, call: &Call, answer: &Answer)
             assert!(blocks.iter().all(|changed| changed == block));
             assert_eq!(words, [block / 64]);
         }
+        (Ok(Reply::Held(_)), Call::Packet { blocks: named, .. }) => {
+            let results = named.iter().zip(&answer.list);
+            let new = results.filter(|(_, result)| **result == 0);
+            let new: BTreeSet<u64> = new.map(|(block, _)| *block).collect();
+            assert!(blocks.iter().all(|changed| new.contains(changed)));
+            let new_words: BTreeSet<u64> = new.iter().map(|block| block / 64).collect();
+            assert!(words.iter().eq(&new_words));
+        }
         _ => assert!(blocks.is_empty() && words.is_empty()),
     }
-    let written = match answer.reply {
-        Ok(Reply::Rows(Rows::Full { rows, .. } | Rows::Waiting { rows, .. })) => rows as usize,
-        _ => 0,
-    };
-    assert!(answer.list[written..]
-        .iter()
-        .all(|place| *place == 0xeeee_eeee));
     if !matches!(answer.reply, Ok(Reply::Open(_))) {
         assert_eq!(before.file_len(), after.file_len());
     }
+}
+
+/// What a call writes to its list: the front of it, all of the front and nothing behind.
+fn check_list(call: &Call, answer: &Answer) {
+    let written = match (&answer.reply, call) {
+        (Ok(Reply::Rows(Rows::Full { rows, .. } | Rows::Waiting { rows, .. })), _) => *rows,
+        (Ok(Reply::Held(_)), Call::Packet { blocks, .. }) => blocks.len() as u64,
+        _ => 0,
+    };
+    let (front, rest) = answer.list.split_at(written as usize);
+    assert!(front.iter().all(|number| *number != 0xeeee_eeee));
+    assert!(rest.iter().all(|number| *number == 0xeeee_eeee));
 }
 
 #[test]
@@ -61,7 +74,8 @@ fn every_refusal_is_reached_and_writes_nothing() {
         for call in random_run(seed) {
             let before = run.session().clone();
             if let Some(answer) = call.make(&mut run) {
-                check_writes(&before, run.session(), &call, &answer);
+                check_buffers(&before, run.session(), &call, &answer);
+                check_list(&call, &answer);
                 reached.extend(answer.reply.err().map(|refusal| refusal.number));
             }
         }

@@ -6,7 +6,7 @@ use sarvoltig_reference::model::{Delivered, Received, Refusal, Rows, Session, Ta
 use sarvoltig_reference::rng::Rng;
 use sarvoltig_reference::schedule::{random_file, schedule, Answer, Call, Reply, Run};
 
-/// The deliveries and questions of a schedule.
+/// The deliveries, packets and questions of a schedule.
 fn run_calls(file: &[u8], rng: &mut Rng) -> Vec<Call> {
     let mut calls = schedule(file, rng);
     calls.retain(|call| {
@@ -29,7 +29,17 @@ fn answer_by_received(received: &Received, call: &Call, read_from: &[u32]) -> Op
         | Call::Anlz { .. }
         | Call::Beats
         | Call::Beat { .. } => return None,
-        Call::Deliver { block, ref piece } => delivered_by_received(received, block, piece),
+        Call::Deliver { block, ref piece } => {
+            delivered_by_received(received, block, piece).map(Reply::Delivered)
+        }
+        Call::Packet {
+            room,
+            ref blocks,
+            ref pieces,
+        } => {
+            list = vec![0xeeee_eeee; room];
+            packet_by_received(received, blocks, pieces, &mut list).map(Reply::Held)
+        }
         Call::Rows { table, room } => {
             list = vec![0xeeee_eeee; room];
             received.rows(table, &mut list).map(Reply::Rows)
@@ -48,21 +58,65 @@ fn answer_by_received(received: &Received, call: &Call, read_from: &[u32]) -> Op
     Some(Answer { reply, list })
 }
 
-fn delivered_by_received(received: &Received, block: u64, piece: &[u8]) -> Result<Reply, Refusal> {
+fn delivered_by_received(
+    received: &Received,
+    block: u64,
+    piece: &[u8],
+) -> Result<Delivered, Refusal> {
     let mut after = received.clone();
     after.deliver(block, piece);
     let first_piece = after.block(block as usize);
     let number = match first_piece {
         Some(first) if first == piece && received.held_count() < after.held_count() => {
-            return Ok(Reply::Delivered(Delivered::New(after.held_count())));
+            return Ok(Delivered::New(after.held_count()));
         }
-        Some(first) if first == piece => {
-            return Ok(Reply::Delivered(Delivered::Same(after.held_count())));
-        }
+        Some(first) if first == piece => return Ok(Delivered::Same(after.held_count())),
+        _ if block >= received.block_count() => 5,
         Some(_) if piece.len() == BLOCK_SIZE => 7,
         _ => 6,
     };
     Err(Refusal { number, carries: 0 })
+}
+
+/// The held count after a packet, with each block's result written.
+fn packet_by_received(
+    received: &Received,
+    blocks: &[u64],
+    pieces: &[u8],
+    results: &mut [u32],
+) -> Result<u64, Refusal> {
+    let mut after = received.clone();
+    after.deliver_packet(blocks, pieces, results.len());
+    let refused = |number, carries| Err(Refusal { number, carries });
+    match (blocks.len() * BLOCK_SIZE, blocks.len()) {
+        (bytes, _) if bytes != pieces.len() => return refused(6, 0),
+        (_, count) if count > results.len() => return refused(17, count as u64),
+        _ => {}
+    }
+    let mut singly = received.clone();
+    for (i, piece) in pieces.chunks(BLOCK_SIZE).enumerate() {
+        results[i] = match delivered_by_received(&singly, blocks[i], piece) {
+            Ok(Delivered::New(_)) => 0,
+            Ok(Delivered::Same(_)) => 64,
+            Err(refusal) => refusal.number.into(),
+        };
+        singly.deliver(blocks[i], piece);
+    }
+    assert_eq!(after, singly);
+    Ok(after.held_count())
+}
+
+/// Enters a delivery or a packet.
+fn receive(received: &mut Received, call: &Call) {
+    match call {
+        Call::Deliver { block, piece } => received.deliver(*block, piece),
+        Call::Packet {
+            room,
+            blocks,
+            pieces,
+        } => received.deliver_packet(blocks, pieces, *room),
+        _ => {}
+    }
 }
 
 /// Random buffers, longer than the file needs by up to so many bytes and words.
@@ -101,25 +155,13 @@ fn each_answer_and_the_buffers_at_the_end_are_what_the_received_blocks_say() {
         let mut received =
             Received::open(file.len() as u64).expect("an export's length is allowed");
         for call in run_calls(&file, rng) {
-            let mut expected = answer_by_received(&received, &call, run.list());
-            if let Call::Deliver { block, ref piece } = call {
-                if block >= (file.len() / BLOCK_SIZE) as u64 {
-                    expected = Some(refused_answer(5));
-                }
-                received.deliver(block, piece);
-            }
+            let expected = answer_by_received(&received, &call, run.list());
+            receive(&mut received, &call);
             assert_eq!(call.make(&mut run), expected, "{call:?}");
         }
         buffers_by_received(&received, file.len(), &mut image, &mut map);
         assert_eq!(run.session().image(), image);
         assert_eq!(run.session().map(), map);
-    }
-}
-
-fn refused_answer(number: u8) -> Answer {
-    Answer {
-        reply: Err(Refusal { number, carries: 0 }),
-        list: Vec::new(),
     }
 }
 
@@ -136,18 +178,29 @@ fn all_answers(run: &mut Run) -> Vec<Answer> {
     calls.iter().filter_map(|call| call.make(run)).collect()
 }
 
-/// A run with the deliveries that bring these blocks, in another order.
-fn run_of_received(received: &Received, blocks: usize, rng: &mut Rng) -> Vec<Call> {
-    let mut numbers: Vec<usize> = (0..blocks).collect();
-    rng.shuffle(&mut numbers);
-    numbers
-        .into_iter()
-        .filter_map(|number| {
-            let piece = received.block(number)?.to_vec();
-            let block = number as u64;
-            Some(Call::Deliver { block, piece })
-        })
-        .collect()
+/// A run with the deliveries or packets that bring these blocks, in another order.
+fn run_of_received(received: &Received, rng: &mut Rng) -> Vec<Call> {
+    let mut brought: Vec<(u64, &[u8])> = (0..received.block_count())
+        .filter_map(|block| Some((block, &received.block(block as usize)?[..])))
+        .collect();
+    rng.shuffle(&mut brought);
+    let size = rng.pick(&[1, 2, 64]);
+    let parts = brought.chunks(size).map(|part| {
+        let (blocks, pieces): (Vec<u64>, Vec<&[u8]>) = part.iter().copied().unzip();
+        let pieces = pieces.concat();
+        match size {
+            1 => Call::Deliver {
+                block: blocks[0],
+                piece: pieces,
+            },
+            _ => Call::Packet {
+                room: size,
+                blocks,
+                pieces,
+            },
+        }
+    });
+    parts.collect()
 }
 
 #[test]
@@ -165,11 +218,9 @@ fn two_runs_with_equal_received_blocks_end_alike() {
             Received::open(file.len() as u64).expect("an export's length is allowed");
         for call in run_calls(&file, rng) {
             call.make(&mut one);
-            if let Call::Deliver { block, piece } = &call {
-                received.deliver(*block, piece);
-            }
+            receive(&mut received, &call);
         }
-        for call in run_of_received(&received, file.len() / BLOCK_SIZE, rng) {
+        for call in run_of_received(&received, rng) {
             call.make(&mut other);
         }
         assert_eq!(one.session().image(), other.session().image());

@@ -1,8 +1,8 @@
-//! `bench`: the library beside something else, in one run: taking in against memcpy, questions and reading from lists
-//! against the reference, pages of recording codes against the reference and against pages without codes, beats against
-//! the reference and against a pass that allocates nothing.
+//! `bench`: the library beside something else, in one run: taking in, block by block and in packets, against memcpy,
+//! questions and reading from lists against the reference, pages of recording codes against the reference and against
+//! pages without codes, beats against the reference and against a pass that allocates nothing.
 
-use sarvoltig::{map_words, Anlz, Beat, Encoding, Intake, Table, Track, BLOCK};
+use sarvoltig::{map_words, Accepted, Anlz, Beat, Encoding, Intake, Table, Track, BLOCK};
 use sarvoltig_reference::anlz;
 use sarvoltig_reference::generate;
 use sarvoltig_reference::model::{self, Session};
@@ -108,6 +108,84 @@ fn taking_in(megabytes: usize, runs: usize) {
         || blocks.copy(&mut copy),
     );
     line(&format!("taking in {megabytes} MB, against memcpy"), times);
+}
+
+/// Blocks in a packet.
+const PACKET: usize = 64;
+
+/// A file's blocks in shuffled order, gathered into packets as a network hands them over: their numbers, and their
+/// pieces end to end.
+struct Packets {
+    blocks: Vec<u64>,
+    pieces: Vec<u8>,
+}
+
+impl Packets {
+    fn new(megabytes: usize) -> Self {
+        let mut rng = Rng::new(megabytes as u64);
+        let pieces = rng.bytes(megabytes << 20);
+        let mut blocks: Vec<u64> = (0..(pieces.len() / BLOCK) as u64).collect();
+        rng.shuffle(&mut blocks);
+        Self { blocks, pieces }
+    }
+
+    /// The blocks one by one: each place in the image, and its piece.
+    fn placed(&self) -> impl Iterator<Item = (Range<usize>, &[u8])> {
+        let places = self
+            .blocks
+            .iter()
+            .map(|&block| Blocks::part(block as usize));
+        places.zip(self.pieces.chunks_exact(BLOCK))
+    }
+
+    /// Taken in by the library, into cleared buffers, with a look at each result.
+    fn take_in(&self, image: &mut [u8], map: &mut [u64]) -> Duration {
+        image.fill(0);
+        map.fill(0);
+        let mut results = [0; PACKET];
+        let time = timed(|| {
+            let mut intake = Intake::open(image, map).expect("an allowed length");
+            let pieces = self.pieces.chunks(PACKET * BLOCK);
+            for (blocks, pieces) in self.blocks.chunks(PACKET).zip(pieces) {
+                let packet = intake.deliver_packet(blocks, pieces, &mut results);
+                let mut results = packet.expect("a whole packet").into_iter();
+                assert!(results.all(|result| result == Ok(Accepted::New)));
+            }
+        });
+        let mut placed = self.placed();
+        assert!(
+            placed.all(|(place, piece)| &image[place] == piece),
+            "every block is in"
+        );
+        time
+    }
+
+    /// Copied block by block, into a cleared buffer.
+    fn copy(&self, image: &mut [u8]) -> Duration {
+        image.fill(0);
+        timed(|| {
+            for (place, piece) in self.placed() {
+                image[place].copy_from_slice(piece);
+                black_box(&mut *image);
+            }
+        })
+    }
+}
+
+fn taking_in_packets(megabytes: usize, runs: usize) {
+    let packets = Packets::new(megabytes);
+    let len = packets.pieces.len();
+    let (mut image, mut map) = (vec![1; len], vec![1; map_words(len as u64)]);
+    let mut copy = vec![1; len];
+    let times = fastest(
+        runs,
+        || packets.take_in(&mut image, &mut map),
+        || packets.copy(&mut copy),
+    );
+    line(
+        &format!("taking in {megabytes} MB in packets of {PACKET}, against memcpy by block"),
+        times,
+    );
 }
 
 /// An export taken in whole, by the library and by the reference.
@@ -452,6 +530,9 @@ fn main() {
     taking_in(8, 100);
     taking_in(64, 5);
     taking_in(256, 2);
+    taking_in_packets(8, 100);
+    taking_in_packets(64, 20);
+    taking_in_packets(256, 10);
     let big = generate::big().bytes;
     with_export(&big, |intake, session| {
         questions(intake, session, 60);

@@ -1,22 +1,27 @@
-//! `demo FILE [--late N] [--repeated N] [--harsh] [--seed N] [--pause MS] [--tracks N]`: the main job on a terminal.
+//! `demo FILE [--packet N] [--late N] [--repeated N] [--harsh] [--seed N] [--pause MS] [--tracks N]`: the main job on a
+//! terminal.
 //!
-//! The file's blocks arrive out of order, some late and some repeated (N of a hundred). The display shows the blocks
-//! held and the rows known of each table, and at the end the playlists with their tracks, each with its recording code
-//! where it has one. A row once listed is never taken back: each answer is compared with the one before.
+//! The file's blocks arrive out of order, some late and some repeated (N of a hundred), one by one or in packets of up to
+//! N. The display shows the blocks held and the rows known of each table, and at the end the playlists with their tracks,
+//! each with its recording code where it has one. A row once listed is never taken back: each answer is compared with the
+//! one before.
 
 use sarvoltig::{
-    map_words, Delivered, Encoding, Intake, Record, Refusal, Table, Text, Track, Walk, BLOCK,
+    map_words, Accepted, Delivered, Encoding, Intake, Record, Refusal, Table, Text, Track, Walk,
+    BLOCK,
 };
 use sarvoltig_reference::rng::Rng;
 use sarvoltig_tools::failure::Failure;
 use std::collections::{HashMap, HashSet};
 use std::io::{self, IsTerminal, Write};
+use std::num::NonZeroUsize;
 use std::process::ExitCode;
+use std::str::FromStr;
 use std::thread::sleep;
 use std::time::Duration;
 
-const USAGE: &str =
-    "usage: demo FILE [--late N] [--repeated N] [--harsh] [--seed N] [--pause MS] [--tracks N]";
+const USAGE: &str = "\
+usage: demo FILE [--packet N] [--late N] [--repeated N] [--harsh] [--seed N] [--pause MS] [--tracks N]";
 const BAR: usize = 40;
 /// Characters of the widest column of titles. A code behind a longer title is not in line.
 const WIDEST: usize = 40;
@@ -24,6 +29,7 @@ const WIDEST: usize = 40;
 /// What the command line asks for.
 struct Options {
     file: String,
+    packet: Option<NonZeroUsize>,
     late: u64,
     repeated: u64,
     damaged: u64,
@@ -33,10 +39,12 @@ struct Options {
 }
 
 impl Options {
-    fn parse(mut words: impl Iterator<Item = String>) -> Option<Self> {
-        let file = words.next()?;
+    /// The options of these words, or what is wrong with them.
+    fn parse(mut words: impl Iterator<Item = String>) -> Result<Self, String> {
+        let file = words.next().ok_or("which file?")?;
         let mut options = Self {
             file,
+            packet: None,
             late: 31,
             repeated: 9,
             damaged: 0,
@@ -45,19 +53,31 @@ impl Options {
             tracks: 20,
         };
         while let Some(word) = words.next() {
-            let mut number = || words.next()?.parse().ok();
-            match word.as_str() {
-                "--late" => options.late = number()?,
-                "--repeated" => options.repeated = number()?,
-                "--seed" => options.seed = number()?,
-                "--pause" => options.pause = number()?,
-                "--tracks" => options.tracks = number()? as usize,
+            let word = word.as_str();
+            match word {
+                "--packet" => {
+                    options.packet = Some(number(word, "a number from 1 on", words.next())?)
+                }
+                "--late" => options.late = number(word, "a number", words.next())?,
+                "--repeated" => options.repeated = number(word, "a number", words.next())?,
+                "--seed" => options.seed = number(word, "a number", words.next())?,
+                "--pause" => options.pause = number(word, "a number", words.next())?,
+                "--tracks" => options.tracks = number(word, "a number", words.next())?,
                 "--harsh" => (options.late, options.repeated, options.damaged) = (70, 40, 20),
-                _ => return None,
+                _ => return Err(format!("{word:?} is no option")),
             }
         }
-        Some(options)
+        Ok(options)
     }
+}
+
+/// The number behind an option.
+fn number<T: FromStr>(option: &str, takes: &str, word: Option<String>) -> Result<T, String> {
+    let wrong = match &word {
+        Some(word) => format!("{option} takes {takes}, not {word:?}"),
+        None => format!("{option} takes {takes}"),
+    };
+    word.and_then(|word| word.parse().ok()).ok_or(wrong)
 }
 
 /// What the network brings: a block's number and bytes, right or wrong.
@@ -122,13 +142,97 @@ fn damaged(block: usize, piece: &[u8], blocks: usize, rng: &mut Rng) -> Arrival 
     }
 }
 
-/// The places listed of each table, and how many deliveries did what.
+/// What one call brings.
+enum Delivery {
+    Block(Arrival),
+    Packet(Packet),
+}
+
+/// Blocks that arrive together: their numbers, and their pieces end to end.
+#[derive(Default)]
+struct Packet {
+    blocks: Vec<u64>,
+    pieces: Vec<u8>,
+}
+
+impl Packet {
+    fn new<'a>(arrivals: impl IntoIterator<Item = &'a Arrival>) -> Self {
+        let mut packet = Self::default();
+        for arrival in arrivals {
+            packet.blocks.push(arrival.block);
+            packet.pieces.extend(&arrival.piece);
+        }
+        packet
+    }
+}
+
+/// The arrivals in packets of up to so many blocks. A packet with a cut piece is refused whole, and so it comes again
+/// without that piece.
+fn packets(arrivals: &[Arrival], most: NonZeroUsize) -> Vec<Packet> {
+    let mut packets = Vec::new();
+    for together in arrivals.chunks(most.get()) {
+        packets.push(Packet::new(together));
+        let whole = together.iter().filter(|a| a.piece.len() == BLOCK);
+        let again = Packet::new(whole);
+        if !again.blocks.is_empty() && again.blocks.len() < together.len() {
+            packets.push(again);
+        }
+    }
+    packets
+}
+
+/// The arrivals one by one, or in packets.
+fn deliveries(arrivals: Vec<Arrival>, packet: Option<NonZeroUsize>) -> Vec<Delivery> {
+    match packet {
+        Some(most) => {
+            let packets = packets(&arrivals, most);
+            packets.into_iter().map(Delivery::Packet).collect()
+        }
+        None => arrivals.into_iter().map(Delivery::Block).collect(),
+    }
+}
+
+/// The places listed of each table, the blocks held, how many blocks did what, and how many packets.
 #[derive(Default)]
 struct Progress {
     places: HashMap<Table, Vec<u32>>,
+    held: u64,
     new: u64,
     same: u64,
     refused: u64,
+    packets: u64,
+    packets_refused: u64,
+}
+
+impl Progress {
+    fn count(&mut self, result: Result<Accepted, Refusal>) {
+        match result {
+            Ok(Accepted::New) => self.new += 1,
+            Ok(Accepted::Same) => self.same += 1,
+            Err(_) => self.refused += 1,
+        }
+    }
+
+    fn take_block(&mut self, intake: &mut Intake, Arrival { block, piece }: &Arrival) {
+        let result = intake.deliver(*block, piece);
+        self.held = result.map_or(self.held, Delivered::held);
+        self.count(result.map(|delivered| match delivered {
+            Delivered::New(_) => Accepted::New,
+            Delivered::Same(_) => Accepted::Same,
+        }));
+    }
+
+    fn take_packet(&mut self, intake: &mut Intake, Packet { blocks, pieces }: &Packet) {
+        self.packets += 1;
+        let mut results = vec![0; blocks.len()];
+        match intake.deliver_packet(blocks, pieces, &mut results) {
+            Ok(packet) => {
+                self.held = packet.held();
+                packet.into_iter().for_each(|result| self.count(result));
+            }
+            Err(_) => self.packets_refused += 1,
+        }
+    }
 }
 
 /// The terminal: a picture that is drawn over the one before, or plain lines.
@@ -179,8 +283,8 @@ fn table_line(intake: &Intake, table: Table, progress: &mut Progress) -> String 
     }
 }
 
-fn picture(intake: &Intake, held: u64, progress: &mut Progress) -> Vec<String> {
-    let blocks = intake.blocks();
+fn picture(intake: &Intake, progress: &mut Progress) -> Vec<String> {
+    let (held, blocks) = (progress.held, intake.blocks());
     let mut lines = vec![format!(
         "{} {held} of {blocks} blocks held; {} new, {} repeated, {} refused",
         bar(held, blocks),
@@ -188,36 +292,30 @@ fn picture(intake: &Intake, held: u64, progress: &mut Progress) -> Vec<String> {
         progress.same,
         progress.refused
     )];
+    if progress.packets > 0 {
+        let (packets, refused) = (progress.packets, progress.packets_refused);
+        lines.push(format!("  packets: {packets}, refused whole: {refused}"));
+    }
     lines.extend(Table::ALL.map(|table| table_line(intake, table, progress)));
     lines
 }
 
-/// Takes the arrivals in and draws as they come.
-fn take_in(intake: &mut Intake, arrivals: &[Arrival], pause: u64) -> io::Result<()> {
+/// Takes the deliveries in and draws as they come.
+fn take_in(intake: &mut Intake, deliveries: &[Delivery], pause: u64) -> io::Result<()> {
     let mut progress = Progress::default();
     let mut screen = Screen {
         terminal: io::stdout().is_terminal(),
         lines: 0,
     };
-    let every = if screen.terminal {
-        arrivals.len().div_ceil(400)
-    } else {
-        arrivals.len().div_ceil(5)
-    };
-    let mut held = 0;
-    for (count, arrival) in (1..).zip(arrivals) {
-        match intake.deliver(arrival.block, &arrival.piece) {
-            Ok(delivered) => {
-                held = delivered.held();
-                match delivered {
-                    Delivered::New(_) => progress.new += 1,
-                    Delivered::Same(_) => progress.same += 1,
-                }
-            }
-            Err(_) => progress.refused += 1,
+    let pictures = if screen.terminal { 400 } else { 5 };
+    let every = deliveries.len().div_ceil(pictures).max(1);
+    for (count, delivery) in (1..).zip(deliveries) {
+        match delivery {
+            Delivery::Block(arrival) => progress.take_block(intake, arrival),
+            Delivery::Packet(packet) => progress.take_packet(intake, packet),
         }
-        if count % every.max(1) == 0 || count == arrivals.len() {
-            screen.draw(&picture(intake, held, &mut progress))?;
+        if count % every == 0 || count == deliveries.len() {
+            screen.draw(&picture(intake, &mut progress))?;
             if screen.terminal {
                 sleep(Duration::from_millis(pause));
             }
@@ -386,15 +484,19 @@ fn run(options: &Options) -> Result<(), Failure> {
     let mut image = vec![0; file.len()];
     let mut map = vec![0; map_words(file.len() as u64)];
     let mut intake = Intake::open(&mut image, &mut map)?;
-    take_in(&mut intake, &arrivals(&file, options), options.pause)?;
+    let deliveries = deliveries(arrivals(&file, options), options.packet);
+    take_in(&mut intake, &deliveries, options.pause)?;
     writeln!(io::stdout())?;
     playlists(&intake, options.tracks)
 }
 
 fn main() -> ExitCode {
-    let Some(options) = Options::parse(std::env::args().skip(1)) else {
-        eprintln!("{USAGE}");
-        return ExitCode::from(2);
+    let options = match Options::parse(std::env::args().skip(1)) {
+        Ok(options) => options,
+        Err(wrong) => {
+            eprintln!("demo: {wrong}\n{USAGE}");
+            return ExitCode::from(2);
+        }
     };
     match run(&options) {
         Ok(()) => ExitCode::SUCCESS,

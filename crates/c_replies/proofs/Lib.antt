@@ -1,0 +1,2 @@
+-- PacketCodes: the results of a packet are codes of deliveries.
+pub mod PacketCodes
