@@ -68,7 +68,8 @@ heldOf (Refused refusal) = refused (faultOf refusal)
 abbrev pub packetOutcomeOf : (r : PacketDelivered) (image : Bytes) (map results : Words) → PacketOutcome
 packetOutcomeOf r image map results = packetOutcome (heldOf r) (memory image map) results
 
--- Rules 1.20 to 1.22: the deliveries are made one after the other, and the held blocks counted behind the last; a refusal changes nothing (rule 2.22)
+-- Rules 1.20 to 1.22: the deliveries are made one after the other, and the held blocks are counted behind the last.
+-- Rule 2.22: a refused packet changes nothing.
 abbrev pub settledPacket : (len : ℕ) (m : Memory) (results : Words) (deliveries : Answer (List Delivery)) → PacketOutcome
 settledPacket len m results (given all) =
     packetOutcome (given (heldCount len (afterEach len m all .map))) (afterEach len m all) (written results (resultsOfEach len m all))

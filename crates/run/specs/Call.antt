@@ -30,7 +30,7 @@ pub data Call : Type 0 where
   deliverPacket : Packet → Call
   ask : Question → Call
 
--- those of a packet, none where it is refused
+-- the deliveries of a packet, none where it is refused
 abbrev pub deliveriesGiven : Answer (List Delivery) → List Delivery
 deliveriesGiven (given all) = all
 deliveriesGiven (refused f) = []

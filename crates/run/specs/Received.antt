@@ -1,4 +1,5 @@
--- Rules 8.3 to 8.5: the blocks received so far, from the arguments of opening, deliveries and packets alone. Document 01 calls them the book of a run.
+-- Rules 8.3 to 8.5 and 8.16: the blocks received so far, from the arguments of opening, deliveries and packets alone.
+-- Document 01 calls them the book of a run.
 use mathlib.Core.Bool.{Bool, true, false, cond, _&&_}
 use mathlib.Core.List.{List, [], _∷_}
 use mathlib.Core.Option.{Option, none, some}
