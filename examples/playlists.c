@@ -89,7 +89,7 @@ static const char *const reasons[] = {
     "the file has no such table",
     "a link names no page; it stands on page",
     "the header disagrees, of page",
-    "the row index does not fit, of page",
+    "the row index does not fit or has not as many rows as counted, of page",
     "a row does not fit, on page",
     "a string is malformed or outside, on page",
     "the table's pages come back to one before the last",

@@ -71,7 +71,7 @@ enum {
     SARVOLTIG_NO_POINTER = 10,    /* the file has no such table */
     SARVOLTIG_PAGE_LINK = 11,     /* a link names no page: the page that holds it, 0 for the file header */
     SARVOLTIG_PAGE_HEADER = 12,   /* a page's header names another page or table: the page */
-    SARVOLTIG_ROW_INDEX = 13,     /* a row index does not fit: the page */
+    SARVOLTIG_ROW_INDEX = 13,     /* a row index does not fit, or has not as many rows as counted: the page */
     SARVOLTIG_ROW_SHORT = 14,     /* a row does not fit, or an artist row is of no known subtype: the page */
     SARVOLTIG_TEXT_FAULT = 15,    /* a string is malformed or outside, or a code has no zero byte: the page */
     SARVOLTIG_CHAIN_LOOP = 16,    /* a table's pages come back to one before the last */

@@ -1,7 +1,7 @@
 /*
- * Runs case D (rule 9.11), block by block and in packets, a track with a recording code and a small ANLZ file through the C
- * interface. Every slice that is written has guard elements behind it: each call has to give the code and the values of the
- * rules, and to leave everything else as it was.
+ * Runs case D (rule 9.11), block by block and in packets, the same with other row counts, a track with a recording code and a
+ * small ANLZ file through the C interface. Every slice that is written has guard elements behind it: each call has to give the
+ * code and the values of the rules, and to leave everything else as it was.
  */
 #include <inttypes.h>
 #include <stdint.h>
@@ -305,6 +305,54 @@ static void run_list_waits(void)
     expect(map[0] == 5 && list[0] == 1080, "reading from a list leaves map and list, also when it waits");
 }
 
+/* The row counts of page 2: its second entry is present, and no other. */
+static const struct {
+    const char *what;
+    uint8_t bytes[3];
+    uint32_t code;
+} counts[] = {
+    {"two entries, one row", {0x02, 0x20, 0x00}, SARVOLTIG_DONE},
+    {"16 entries, one row", {0x10, 0x20, 0x00}, SARVOLTIG_DONE},
+    {"17 entries, one row", {0x11, 0x20, 0x00}, SARVOLTIG_DONE},
+    {"two entries, no row", {0x02, 0x00, 0x00}, SARVOLTIG_ROW_INDEX},
+    {"two entries, two rows", {0x02, 0x40, 0x00}, SARVOLTIG_ROW_INDEX},
+    {"two entries, 1,025 rows", {0x02, 0x20, 0x80}, SARVOLTIG_ROW_INDEX},
+    {"one entry, one row", {0x01, 0x20, 0x00}, SARVOLTIG_ROW_INDEX},
+    {"8,191 entries, one row", {0xff, 0x3f, 0x00}, SARVOLTIG_ROW_INDEX},
+};
+
+static void take_in_file(void)
+{
+    uint64_t block;
+
+    answers("opening", sarvoltig_open(LEN, image, LEN, map, 1, clear(), SARVOLTIG_RESULT), SARVOLTIG_DONE, 1, 3, 0, 0);
+    for (block = 0; block < 3; block++) {
+        answers("a block", deliver(block, file + 512 * block, 512), SARVOLTIG_DONE, 1, block + 1, 0, 0);
+    }
+}
+
+/* Each by the questions and from a list. Bytes 22 and 23 of a page mean nothing. */
+static void run_counts(void)
+{
+    size_t i;
+
+    for (i = 0; i < sizeof counts / sizeof counts[0]; i++) {
+        int good = counts[i].code == SARVOLTIG_DONE;
+
+        make_file();
+        memcpy(&file[1024 + 0x18], counts[i].bytes, 3);
+        memset(&file[1024 + 0x22], (int)i, 2);
+        take_in_file();
+        list[0] = good ? 0 : 1080;
+        answers(counts[i].what, rows(SARVOLTIG_GENRES, ROWS), counts[i].code, good ? 2 : 1, good ? 1 : 2, good ? 2 : 0, 0);
+        expect(list[0] == 1080, "the list has the row's place");
+        answers(counts[i].what, record(SARVOLTIG_GENRES, 0), counts[i].code, 1, good ? 7 : 2, 0, 0);
+        answers(counts[i].what, record_in(SARVOLTIG_GENRES, ROWS, 0), counts[i].code, 1, good ? 7 : 2, 0, 0);
+    }
+    make_file();
+    list[0] = 0xa5a5a5a5u;
+}
+
 /* A packet that is refused whole: one value, and image, map and codes as before. */
 static void refuses(const char *what, uint32_t code, uint32_t expected, uint64_t carries, uint64_t word)
 {
@@ -426,6 +474,7 @@ static void make_track(size_t i, size_t first, size_t last)
     put32(512 + 0x04, 1);
     put32(512 + 0x08, SARVOLTIG_TRACKS);
     file[512 + 0x18] = 1;
+    file[512 + 0x19] = 0x20;
     file[1024 - 4] = 1;
     file[TRACK] = 0x03;
     for (; first <= last; first++) {
@@ -436,12 +485,7 @@ static void make_track(size_t i, size_t first, size_t last)
 
 static void take_in_track(void)
 {
-    uint64_t block;
-
-    answers("opening", sarvoltig_open(LEN, image, LEN, map, 1, clear(), SARVOLTIG_RESULT), SARVOLTIG_DONE, 1, 3, 0, 0);
-    for (block = 0; block < 3; block++) {
-        answers("a block", deliver(block, file + 512 * block, 512), SARVOLTIG_DONE, 1, block + 1, 0, 0);
-    }
+    take_in_file();
     list[0] = TRACK;
 }
 
@@ -629,6 +673,7 @@ int main(void)
     run_list_waits();
     run_refused_packets();
     run_packets();
+    run_counts();
     run_codes();
     run_beats();
     run_short_anlz();

@@ -1,44 +1,21 @@
 -- What `page::read` tells the walk of a page: its count of rows, which is at most the page's length, or its fault. Rule 4.5.
 use mathlib.Core.Path.{_≡_, refl, ap, sym, _∙_}
-use mathlib.Core.Bool.{true}
-use Prim.Native.Nat.{ℕ, _+_, _*_, _%_, _≤_}
+use Prim.Native.Nat.{ℕ, _+_, _*_, _≤_}
 use native.Mathlib.Omega.{arith}
 use lib.ListN.{length, length-map}
-use lib.Dec.{eqb}
-use borrow.Author.Tests.{leb-true, eqb-true}
 use Rattle.lists.specs.Alias.{Bytes, Places}
 use Rattle.refusal.specs.declared.Refusal.{Refusal}
-use Rattle.format.specs.Size.{heapStart}
 use Rattle.refusal.specs.Fault.{faultOf}
 use Rattle.refusal.specs.Answer.{Answer, given, refused}
 use Rattle.table.specs.declared.Table.{Table}
 use Rattle.page.specs.declared.PageRead.{PageRead}
 use Rattle.page.specs.declared.PageRead.the-variants.{Rows, Refused}
-use Rattle.page.specs.Header.{rowless, entries}
-use Rattle.page.specs.Index.{indexSize}
-use Rattle.page.specs.Read.{indexFits, rowStarts, readPage, rowCount, pageReadOf}
+use Rattle.page.specs.Read.{rowStarts, readPage, rowCount, pageReadOf}
 use Rattle.chain.specs.File.{pagePart}
-use Rattle.lists.proofs.Choice.{on, never}
-use Rattle.page.proofs.RowStarts.{few-rows}
+use Rattle.lists.proofs.Choice.{never}
+use Rattle.page.proofs.RowStarts.{rows-short}
 use Rattle.page.proofs.PageAnswer.{page-read}
 use Rattle.chain.proofs.PagePart.{part-short}
-
--- an entry takes at least a byte of the index
-index-long : (n : ℕ) → n ≤ indexSize n
-unfolding indexSize
-index-long n = on (eqb (n % 16) 0) (λ e. rw e (omega (arith, eqb-true (n % 16) 0 e))) (λ e. rw e (omega arith))
-
-fits-long : (page : Bytes) → indexFits page ≡ true → entries page ≤ length page
-unfolding indexFits
-fits-long page e = omega (arith, leb-true (heapStart + indexSize (entries page)) (length page) e, index-long (entries page))
-
-rows-fit : (page : Bytes) → indexFits page ≡ true → length (rowStarts page) ≤ length page
-rows-fit page e = omega (arith, few-rows page, fits-long page e)
-
-rows-short : (page : Bytes) → length (rowStarts page) ≤ length page
-unfolding rowStarts
-rows-short page =
-    on (rowless page) (λ r. rw r (omega arith)) (λ r. on (indexFits page) (λ f. rows-fit page f) (λ f. rw (r, f) (omega arith)))
 
 module _ {page : Bytes} (size : ℕ) (image : Bytes) (number : ℕ) (table : Table) (p : page ≡ pagePart size image number) {r : PageRead}
     (e : pageReadOf r ≡ rowCount (readPage number table page)) where

@@ -1,6 +1,6 @@
 -- The examples hold (specs/Examples), by computation of the definitions.
 use mathlib.Core.Path.{refl}
-use Rattle.number.specs.Number.{le16, le32}
+use Rattle.number.specs.Number.{le16, le24, le32}
 use Rattle.lists.specs.Any.{anyFrom}
 use Rattle.lists.specs.Member.{isMember}
 use Rattle.number.specs.Agree.{within}
@@ -14,12 +14,12 @@ use Rattle.row.specs.Layout.{artistLayout}
 use Rattle.row.specs.Check.{checkTexts, checkRow}
 use Rattle.row.specs.Slot.{slotText}
 use Rattle.row.specs.Bytes.{slotByte, subtypeByte, rowByte}
-use Rattle.page.specs.Header.{headerAgrees, rowless, entries}
+use Rattle.page.specs.Header.{headerAgrees, rowless, entries, num-rows}
 use Rattle.page.specs.Index.{indexSize, flagsAt, offsetAt, present, rowStart, presentFrom}
-use Rattle.page.specs.Read.{indexFits, beforeIndex, rowStarts, checkRows, readPage}
+use Rattle.page.specs.Read.{indexFits, countAgrees, indexGood, beforeIndex, rowStarts, checkRows, readPage}
 use Rattle.page.specs.Row.{pageRow}
 use Rattle.page.specs.OneRow.{isRow}
-use Rattle.page.specs.Bytes.{headerByte, rowByteAt, indexByte, entryByte, entriesByte, pageByte, oneRowByte}
+use Rattle.page.specs.Bytes.{headerByte, flagsByte, offsetByte, rowByteAt, entryByte, entriesByte, pageByte, oneRowByte}
 use Rattle.intake.specs.Length.{allowedLength}
 use Rattle.bitmap.specs.Spare.{spareBit}
 use Rattle.bitmap.specs.Bit.{bit}
@@ -38,28 +38,37 @@ use Rattle.table_walk.specs.Asked.{askedTable}
 use Rattle.table_walk.specs.Walk.{tableWalk}
 use Rattle.table_walk.specs.Reads.{tableReads}
 use Rattle.export.specs.Row.{rowPart}
+use Rattle.export.specs.Rows.{askRows}
 use Rattle.export.specs.Text.{askText}
 use Rattle.depend.specs.Bytes.{walkedByte, firstBlockByte, tableByte, relevant}
-use Rattle.depend.specs.Unread.{inPresentRow, inAbsentRow, absentRow, unreadByte, unreadFor}
+use Rattle.depend.specs.Unread.{inPresentRow, inAbsentRow, absentRow, unnamedByte, unreadByte, unreadFor}
 use Rattle.depend.specs.ListBytes.{elementReads, elementByte, listByte}
-use Rattle.depend.specs.Examples.{examples, ExamplesHold, CodeAnswers}
+use Rattle.depend.specs.Examples.{examples, ExamplesHold, CountAnswers, CodeAnswers}
 
 pub examples-hold : ExamplesHold examples
-unfolding le16 le32 anyFrom isMember within linkable headSize wholeSize isInside holdsCodes isCode firstZero codeLength
+unfolding le16 le24 le32 anyFrom isMember within linkable headSize wholeSize isInside holdsCodes isCode firstZero codeLength
     plainText textIn readText codeByte textByte tableOf artistLayout checkTexts checkRow
-    slotByte subtypeByte rowByte headerAgrees rowless entries indexSize flagsAt offsetAt present rowStart presentFrom
-    indexFits beforeIndex rowStarts checkRows readPage headerByte rowByteAt indexByte entryByte entriesByte pageByte
+    slotByte subtypeByte rowByte headerAgrees rowless entries num-rows indexSize flagsAt offsetAt present rowStart presentFrom
+    indexFits countAgrees indexGood beforeIndex rowStarts checkRows readPage headerByte flagsByte offsetByte rowByteAt entryByte entriesByte pageByte
     allowedLength spareBit bit checkLengths checkCall blockAt allowedPage allowedTables hasType typeTwice tablesHold headerHolds
     pointersFrom kept pointerAmong chainIn tableChain directoryByte blockMissing pageHeld pagePart pageNext
     comesTo goesOn reads readsFrom askedTable tableReads walkedByte firstBlockByte tableByte relevant
-    inPresentRow inAbsentRow absentRow unreadByte unreadFor
+    inPresentRow inAbsentRow absentRow unnamedByte unreadByte unreadFor
     pageRow isRow oneRowByte runBefore rank elementReads elementByte listByte
 examples-hold = refl
 
+pub count-answers : CountAnswers
+unfolding le16 le24 le32 anyFrom isMember linkable headSize wholeSize isInside isCode plainText textIn readText tableOf checkTexts checkRow
+    headerAgrees rowless entries num-rows indexSize flagsAt offsetAt present rowStart presentFrom
+    indexFits countAgrees indexGood beforeIndex rowStarts checkRows readPage
+    allowedLength spareBit bit checkLengths checkCall blockAt allowedPage allowedTables hasType typeTwice tablesHold headerHolds
+    pointersFrom kept pointerAmong chainIn tableChain blockMissing pageHeld pagePart pageNext walk walkFrom askedTable tableWalk askRows
+count-answers = record { unchanged = refl; behind = λ _ _. refl; more = refl; none = refl; fewer = refl }
+
 pub code-answers : CodeAnswers
-unfolding le16 le32 anyFrom isMember linkable headSize wholeSize isInside holdsCodes isCode firstZero codeLength
+unfolding le16 le24 le32 anyFrom isMember linkable headSize wholeSize isInside holdsCodes isCode firstZero codeLength
     plainText textIn readText tableOf checkTexts checkRow slotText
-    headerAgrees rowless entries indexSize flagsAt offsetAt present rowStart presentFrom indexFits beforeIndex rowStarts checkRows readPage
+    headerAgrees rowless entries num-rows indexSize flagsAt offsetAt present rowStart presentFrom indexFits countAgrees indexGood beforeIndex rowStarts checkRows readPage
     allowedLength spareBit bit checkLengths checkCall blockAt allowedPage allowedTables hasType typeTwice tablesHold headerHolds
     pointersFrom kept pointerAmong chainIn tableChain blockMissing pageHeld pagePart pageNext walk walkFrom askedTable tableWalk rowPart askText
 code-answers = record { unchanged = refl; behind = λ _. refl; last = λ _. refl; zeroByte = refl; noCode = refl }

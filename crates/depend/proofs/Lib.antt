@@ -3,7 +3,8 @@
 --     WalkAgree          images that agree on a table's relevant bytes have the same walk for it
 --     FoundRowAgree      and the same record and texts of each row found
 --     RelevantHeld       a relevant byte stands in a held block
---     RelevantRead       and, on a page, outside the absent rows
+--     UnnamedHeader      a byte of a page header outside its fields is not relevant
+--     RelevantRead       so a relevant byte stands, on a page, outside those and the absent rows
 --     InUseOnly          bytes past L and words past those in use change nothing
 --     ListLength         of the list that comes with a question only the length does
 --     Depend             the theorem about the questions, from these
@@ -14,6 +15,7 @@ pub mod PartAgree
 pub mod WalkAgree
 pub mod FoundRowAgree
 pub mod RelevantHeld
+pub mod UnnamedHeader
 pub mod RelevantRead
 pub mod InUseOnly
 pub mod ListLength

@@ -117,7 +117,7 @@ module _ (len : ℕ) (map : Words) (s t : Bytes) (table : Table) (list : Places)
 
     row-agree : Agree (rowByte table (rowPart size s (getD list element 0))) (rowPart size s (getD list element 0)) (rowPart size t (getD list element 0))
     unfolding rowPart
-    row-agree = one-part number table start (rank size list element) (page-agree found-reads) (row .header) (row .rows) (row .fits) (row .here)
+    row-agree = one-part number table start (rank size list element) (page-agree found-reads) (row .header) (row .rows) (row .index) (row .here)
 
     row-good : checkRow table (rowPart size s (getD list element 0)) ≡ given tt
     unfolding rowPart

@@ -1,5 +1,5 @@
--- Rule 7.10: a relevant byte of a page stands outside its absent rows, and on a page that the walk reads: `relevant-read`.
--- Rests on where a page's header, rows and index stand, and on proofs/RelevantHeld.
+-- Rule 7.10: a relevant byte of a page stands outside its absent rows, in its header only in a field, and on a page that the walk reads: `relevant-read`.
+-- Rests on where a page's header, rows and index stand, on proofs/UnnamedHeader and on proofs/RelevantHeld.
 use mathlib.Core.Path.{_≡_, sym, _∙_}
 use mathlib.Core.Bool.{Bool, true, false, not, _&&_, and-false, false≢true}
 use Prim.Native.Nat.{ℕ, _+_, _-_, _/_, _%_, _<_, _≤_}
@@ -15,23 +15,23 @@ use Rattle.lists.specs.Any.{anyFrom}
 use Rattle.refusal.specs.Answer.{Answer, given, refused}
 use Rattle.table.specs.declared.Table.{Table}
 use Rattle.page.specs.Header.{entries}
-use Rattle.page.specs.Index.{indexSize, flagsAt, offsetAt, present, rowStart}
+use Rattle.page.specs.Index.{indexSize, present, rowStart}
 use Rattle.page.specs.Read.{beforeIndex}
-use Rattle.page.specs.Bytes.{headerByte, rowByteAt, indexByte, entryByte, entriesByte, pageByte}
+use Rattle.page.specs.Bytes.{headerByte, offsetByte, rowByteAt, entryByte, entriesByte, pageByte}
 use Rattle.intake.specs.Memory.{Memory, blockAt}
 use Rattle.directory.specs.Bytes.{directoryByte}
 use Rattle.table_walk.specs.Walk.{pageSize}
 use Rattle.table_walk.specs.Reads.{tableReads}
 use Rattle.run.specs.Call.{Question}
 use Rattle.depend.specs.Bytes.{pageAt, pageWith, walkedByte, firstBlockByte, tableByte, walkedTable, relevantIn, relevant}
-use Rattle.depend.specs.Unread.{inPresentRow, inAbsentRow, absentRow, unreadByte, unreadIn, unreadFor}
+use Rattle.depend.specs.Unread.{inPresentRow, inAbsentRow, absentRow, unnamedByte, unreadByte, unreadIn, unreadFor}
 use Rattle.lists.proofs.Choice.{on, both-true}
 use Rattle.lists.proofs.Any.{any-none, any-not}
 use Rattle.number.proofs.NumberAgree.{within-false}
-use Rattle.page.proofs.EntriesInside.{entry-room}
 use Rattle.directory.proofs.GoodHeader.{good-header}
 use Rattle.table_walk.proofs.PageWalked.{page-walked}
 use Rattle.depend.proofs.RelevantHeld.{directory-low}
+use Rattle.depend.proofs.UnnamedHeader.{not-flags, not-offset, unnamed-irrelevant}
 
 module _ (table : Table) (page : Bytes) (i : ℕ) (rows : heapStart ≤ i) (index : i < length page - indexSize (entries page)) where
   not-header : headerByte i ≡ false
@@ -42,31 +42,22 @@ module _ (table : Table) (page : Bytes) (i : ℕ) (rows : heapStart ≤ i) (inde
         before 0x04 4 (omega arith),
         before 0x08 4 (omega arith),
         before 0x0c 4 (omega arith),
-        before 0x18 1 (omega arith),
+        before 0x18 3 (omega arith),
         before 0x1b 1 (omega arith),
-        before 0x22 2 (omega arith),
       )
 
-  not-flags : (j : ℕ) → j < entries page → within (flagsAt page j) 2 i ≡ false
-  unfolding flagsAt
-  not-flags j h = within-false (flagsAt page j) 2 i (λ k l. omega (arith, entry-room (entries page) j h))
-
-  not-offset : (j : ℕ) → j < entries page → within (offsetAt page j) 2 i ≡ false
-  unfolding offsetAt flagsAt
-  not-offset j h = within-false (offsetAt page j) 2 i (λ k l. omega (arith, entry-room (entries page) j h))
-
   not-entry : inPresentRow table page i ≡ false → (j : ℕ) → j < entries page → entryByte table page j i ≡ false
-  unfolding entryByte indexByte inPresentRow
+  unfolding entryByte offsetByte inPresentRow
   not-entry e j h =
       let inRow : ℕ → Bool = λ k. present page k && rowByteAt table (beforeIndex page) (rowStart page k) i in
       let row = any-not inRow (entries page) 0 j e (omega arith) (omega arith) in
-      simp (not-flags j h, not-offset j h, row, and-false)
+      simp (not-offset page i index j h, row, and-false)
 
   not-page : (number : ℕ) → inPresentRow table page i ≡ false → pageByte number table page i ≡ false
   unfolding pageByte entriesByte
   not-page number e =
       let none = any-none (λ (j : ℕ). entryByte table page j i) (entries page) 0 (λ j l h. not-entry e j (omega arith)) in
-      simp (not-header, none, and-false)
+      simp (not-header, not-flags page i index, none, and-false)
 
 -- a byte of block 0 stands on page 0
 first-page : (size i : ℕ) → i < size → 1 ≤ i / size → ⊥
@@ -106,7 +97,9 @@ module _ (len : ℕ) (m : Memory) (table : Table) (i : ℕ) where
   table-read e =
       on (tableReads len m table (pageAt m i))
       (λ r. on (absentRow table (pageWith m i) (i % pageSize m))
-      (λ a. absurd (false≢true (rw (not-first r, r, absent-irrelevant (pageAt m i) table (pageWith m i) (i % pageSize m) a) at e))) (λ a. rw (r, a)))
+      (λ a. absurd (false≢true (rw (not-first r, r, absent-irrelevant (pageAt m i) table (pageWith m i) (i % pageSize m) a) at e)))
+      (λ a. on (unnamedByte (i % pageSize m))
+      (λ u. absurd (false≢true (rw (not-first r, r, unnamed-irrelevant (pageAt m i) table (pageWith m i) (i % pageSize m) u) at e))) (λ u. rw (r, a, u))))
       (λ r. on (firstBlockByte m i) (λ h. rw (r, h)) (λ h. absurd (false≢true (rw (h, r) at e))))
 
 pub relevant-read : (len : ℕ) (m : Memory) (q : Question) (i : ℕ) → relevant len m q i ≡ true → unreadFor len m q i ≡ false

@@ -1,4 +1,4 @@
--- Rules 7.2 to 7.8, 7.10, 7.12, 7.14 and 7.15 by example: a file of four pages, of which page 3 is off the chain, three that differ a little,
+-- Rules 7.2 to 7.8, 7.10, 7.12, 7.14 and 7.15 by example: a file of four pages, of which page 3 is off the chain, four that differ a little,
 -- and one of a track with a recording code.
 -- An example holds when the definitions say of a byte what is said here.
 use mathlib.Core.Path.{_≡_}
@@ -12,6 +12,8 @@ use Rattle.refusal.specs.Answer.{Answer, given, refused}
 use Rattle.text.specs.declared.Encoding.the-variants.{Ascii, Utf16}
 use Rattle.intake.specs.Memory.{memory}
 use Rattle.chain.specs.Found.{Found, found}
+use Rattle.chain.specs.Walk.{Walk, full}
+use Rattle.export.specs.Rows.{askRows}
 use Rattle.export.specs.Text.{TextPlace, textPlace, askText}
 use Rattle.run.specs.Call.{Question, allRows, oneText}
 use Rattle.depend.specs.Bytes.{relevant}
@@ -31,7 +33,7 @@ header image = put (put (put image 0x04 (0x00 ∷ 0x02 ∷ [])) 0x08 (1 ∷ []))
 abbrev pub pageOne : Bytes → Bytes
 pageOne image = put (put (put (put image 516 (1 ∷ [])) 520 (1 ∷ [])) 524 (2 ∷ [])) 539 (0x64 ∷ [])
 
--- page 2 counts two entries and has flags `24`; entry 1 alone is present, with offset 16: there stand id 7 and a short string of four characters
+-- page 2 counts two entries and one present row and has flags `24`; entry 1 alone is present, with offset 16: there stand id 7 and a short string of four characters
 abbrev pub pageTwo : Bytes → Bytes
 pageTwo image =
     put (put (put (put (put (put image 1028 (2 ∷ [])) 1032 (1 ∷ [])) 1048 (2 ∷ 0x20 ∷ 0 ∷ 0x24 ∷ []))
@@ -42,7 +44,11 @@ genres = pageTwo (pageOne (header (replicate 2048 0)))
 
 -- both rows of page 2 are present
 abbrev pub bothRows : Bytes
-bothRows = put genres 1532 (3 ∷ [])
+bothRows = put (put genres 1532 (3 ∷ [])) 1049 (0x40 ∷ [])
+
+-- page 2 counts two present rows and has one
+abbrev pub miscounted : Bytes
+miscounted = put genres 1049 (0x40 ∷ [])
 
 -- the present row starts three bytes before the row index
 abbrev pub unfit : Bytes
@@ -61,7 +67,7 @@ empties (suc n) = 0x8c ∷ 0 ∷ empties n
 abbrev pub tracks : Bytes
 tracks =
     put (put (put (put (put (put (put (put (header (replicate 2048 0)) 0x1c (0 ∷ [])) 0x28 (1 ∷ []))
-    516 (1 ∷ [])) 536 (1 ∷ 0 ∷ 0 ∷ 0x24 ∷ [])) 646 (0x88 ∷ 0 ∷ [])) 648 (empties 20))
+    516 (1 ∷ [])) 536 (1 ∷ 0x20 ∷ 0 ∷ 0x24 ∷ [])) 646 (0x88 ∷ 0 ∷ [])) 648 (empties 20))
     688 (0x90 ∷ 0x0a ∷ 0 ∷ 0 ∷ 0x03 ∷ 71 ∷ 66 ∷ 0 ∷ 85 ∷ 83 ∷ [])) 1020 (1 ∷ [])
 
 -- the code ends past the index
@@ -133,10 +139,10 @@ abbrev pub examples : List Example
 examples =
     -- block 0: len_page and what stands behind num_tables; the pointer with its empty_candidate, and where a second one would be
     yes all 0x04 ∷ no all 0x0c ∷ yes all 0x1c ∷ yes all 0x20 ∷ no all 0x2c ∷
-    -- page 1, with flag `40`: page_index, next_page, both counts and page_flags; nothing of its heap, its presence flags or its pad bytes
-    yes all 516 ∷ yes all 524 ∷ yes all 536 ∷ yes all 546 ∷ yes all 539 ∷ no all 552 ∷ no all 1020 ∷ no all 1022 ∷
-    -- page 2, the last: its next_page and its counts, and the byte between them and page_flags
-    yes all 1036 ∷ yes all 1048 ∷ no all 1049 ∷ yes all 1051 ∷ yes all 1058 ∷
+    -- page 1, with flag `40`: page_index, next_page, the row counts and page_flags; nothing of its heap, its presence flags or its pad bytes
+    yes all 516 ∷ yes all 524 ∷ yes all 536 ∷ yes all 539 ∷ no all 552 ∷ no all 1020 ∷ no all 1022 ∷
+    -- page 2, the last: its next_page, the three bytes of its row counts, page_flags, and not bytes `22` and `23`
+    yes all 1036 ∷ no all 1047 ∷ yes all 1048 ∷ yes all 1049 ∷ yes all 1050 ∷ yes all 1051 ∷ no all 1052 ∷ no all 1058 ∷ no all 1059 ∷
     -- its absent row, the heap between the rows, and its present row with its string, to the last byte of the text
     no all 1064 ∷ no all 1067 ∷ no all 1079 ∷ yes all 1080 ∷ yes all 1084 ∷ yes all 1088 ∷ no all 1089 ∷
     -- its row index: the present entry's offset, the absent entry's, the presence flags, the pad bytes
@@ -147,15 +153,17 @@ examples =
     no withoutTwo 1080 ∷ yes withoutTwo 524 ∷ no withoutZero 0x04 ∷
     -- a present row that does not fit: its offset, and none of its three bytes
     yesIn unfit (allRows 1 []) 1529 ∷ noIn unfit (allRows 1 []) 1525 ∷ noIn unfit (allRows 1 []) 1527 ∷
+    -- flags whose ones are not as many as the page counts: the flags, and neither an offset nor a row
+    yesIn miscounted (allRows 1 []) 1532 ∷ noIn miscounted (allRows 1 []) 1528 ∷ noIn miscounted (allRows 1 []) 1080 ∷
     -- an artist row of unknown subtype: its subtype, and nothing behind it
     yesIn artists (allRows 2 []) 1080 ∷ yesIn artists (allRows 2 []) 1081 ∷ noIn artists (allRows 2 []) 1082 ∷ noIn artists (allRows 2 []) 1089 ∷
     -- nothing for a table or a slot that there is not
     noIn genres (allRows 9 []) 0x04 ∷ yesIn genres (oneText 1 0 0) 0x04 ∷ noIn genres (oneText 1 0 1) 0x04 ∷
-    -- the absent row's first byte and a byte of page 3 are unread, the present row's and the pointer's are not
-    unread 1064 ∷ unread 1540 ∷ read 1080 ∷ read 0x1c ∷
+    -- the absent row's first byte, bytes `22` and `23` of page 2 and a byte of page 3 are unread, the present row's, the row counts' and the pointer's are not
+    unread 1064 ∷ unread 1058 ∷ unread 1059 ∷ unread 1540 ∷ read 1080 ∷ read 1048 ∷ read 1050 ∷ read 0x1c ∷
     -- read from a list: block 0, of page 2 its header and row index and the row that is named, and nothing of page 1
     yesAt (1080 ∷ []) 0x04 ∷ yesAt (1080 ∷ []) 1028 ∷ yesAt (1080 ∷ []) 1528 ∷ yesAt (1080 ∷ []) 1532 ∷ yesAt (1080 ∷ []) 1084 ∷
-    noAt (1080 ∷ []) 1079 ∷ noAt (1080 ∷ []) 1534 ∷ noAt (1080 ∷ []) 516 ∷
+    noAt (1080 ∷ []) 1058 ∷ noAt (1080 ∷ []) 1079 ∷ noAt (1080 ∷ []) 1534 ∷ noAt (1080 ∷ []) 516 ∷
     -- the place of the absent row: no byte of any row; a place on page 0, and no element: block 0 alone
     yesAt (1064 ∷ []) 1532 ∷ noAt (1064 ∷ []) 1064 ∷ noAt (1064 ∷ []) 1080 ∷ noAt (40 ∷ []) 516 ∷ yesAt [] 0x1c ∷ noAt [] 1028 ∷
     -- of two present rows the one that is named is relevant and the other is not, but both their offsets are
@@ -169,6 +177,18 @@ examples =
 
 abbrev pub ExamplesHold : List Example → Type 0
 ExamplesHold list = map (λ (e : Example). e .found) list ≡ map (λ (e : Example). e .said) list
+
+-- what all rows of table 1 answer, where page 2 has other bytes from byte i of its header on
+abbrev pub rowsWith : (i : ℕ) (bytes : Bytes) → Walk ℕ
+rowsWith i bytes = askRows 2048 (memory (put genres (1024 + i) bytes) (all ∷ [])) 1 (0 ∷ []) .answer
+
+-- Rules 4.11, 5.33: bytes `22` and `23` change no answer; row counts that are not those of the flags do
+pub record CountAnswers : Type 0 where
+  pub unchanged : rowsWith 0x18 (0x02 ∷ 0x20 ∷ 0x00 ∷ []) ≡ given (full 1 2)
+  pub behind : (low high : ℕ) → rowsWith 0x22 (low ∷ high ∷ []) ≡ given (full 1 2)
+  pub more : rowsWith 0x18 (0x02 ∷ 0x40 ∷ 0x00 ∷ []) ≡ refused (fault 13 2)
+  pub none : rowsWith 0x18 (0x02 ∷ 0x00 ∷ 0x00 ∷ []) ≡ refused (fault 13 2)
+  pub fewer : rowsWith 0x18 (0x01 ∷ 0x20 ∷ 0x00 ∷ []) ≡ refused (fault 13 2)
 
 -- what slot 0 of the track answers, where byte i has another value
 abbrev pub codeWith : (i byte : ℕ) → Answer (Found TextPlace)

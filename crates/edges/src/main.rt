@@ -1,5 +1,5 @@
-// Runs the cases of rules 9.1 to 9.4 and writes a line for each: C1 to C3 and a file of 32,768 bytes, a page of no entries,
-// C5 to C8, C9 to C12, and the other two strings. C4 is a theorem alone.
+// Runs cases of rules 9.1 to 9.4 and 9.17 and writes a line for each: C1 to C3 and a file of 32,768 bytes, a page of no entries,
+// C5 and C6, row counts, C9 to C12, and the other two strings. C4 is a theorem alone.
 use intake::Opened;
 use libc::STDOUT_FILENO;
 use page::PageRead;
@@ -26,24 +26,43 @@ fn say_open(len: u64, image: &[u8], map: &mut [u64]) {
     }
 }
 
-// Makes the page number 1 of a table of genres, with these counts of entries.
-fn set_header(page: &mut [u8], small: u8, large: u16) {
-    if page.len() < 0x24 {
-        return;
+fn put(page: &mut [u8], at: usize, byte: u8) {
+    if at < page.len() {
+        page[at] = byte;
     }
-    page[0x04] = 1;
-    page[0x08] = 1;
-    page[0x18] = small;
-    page[0x22] = (large % 256) as u8;
-    page[0x23] = (large / 256) as u8;
 }
 
-fn say_page(page: &mut [u8], small: u8, large: u16) {
-    set_header(page, small, large);
+fn put_counts(page: &mut [u8], counts: u32) {
+    put(page, 0x18, (counts % 256) as u8);
+    put(page, 0x19, (counts / 256 % 256) as u8);
+    put(page, 0x1a, (counts / 65536 % 256) as u8);
+}
+
+// Makes the page number 1 of a table of genres, with these row counts.
+fn set_header(page: &mut [u8], counts: u32) {
+    put(page, 0x04, 1);
+    put(page, 0x08, 1);
+    put_counts(page, counts);
+}
+
+fn say_page(page: &mut [u8], counts: u32) {
+    set_header(page, counts);
     match page::read(page, 1, Table::Genres) {
         PageRead::Rows(rows) => say(b"rows ", rows as u64),
         PageRead::Refused(refusal) => say_refused(refusal),
     }
+}
+
+fn put_flags(page: &mut [u8], low: usize, high: usize) {
+    put(page, low, 0xff);
+    put(page, high, 0xff);
+}
+
+// Sets the flags of entries 0 to 31 of a page of 512 bytes, whose rows all stand at 28, and the first byte of their names.
+fn set_rows(page: &mut [u8], name: u8) {
+    put(page, 0x2c, name);
+    put_flags(page, 508, 509);
+    put_flags(page, 472, 473);
 }
 
 fn say_part(row: &[u8], place: usize, len: usize) {
@@ -83,13 +102,27 @@ fn openings(image: &[u8], map: &mut [u64]) {
 }
 
 fn pages(page: &mut [u8]) {
-    say_page(page, 0, 0);
-    say_page(page, 208, 0);
-    say_page(page, 209, 0);
-    say_page(page, 5, 5);
-    say_page(page, 5, 3);
-    say_page(page, 5, 0x1fff);
-    say_page(page, 5, 300);
+    say_page(page, 0);
+    say_page(page, 208);
+    say_page(page, 209);
+    say_page(page, 0x1fff);
+}
+
+// 16 and 17 entries, all present, counted right; then 17 counted as one less, one more and all ones of both groups.
+fn counted_pages(page: &mut [u8]) {
+    set_rows(page, 0x03);
+    say_page(page, 0x2_0010);
+    say_page(page, 0x2_2011);
+    say_page(page, 0x2_0011);
+    say_page(page, 0x2_4011);
+    say_page(page, 0x4_0011);
+}
+
+// The same where the rows' names are malformed.
+fn bad_names(page: &mut [u8]) {
+    set_rows(page, 0x01);
+    say_page(page, 0x2_2011);
+    say_page(page, 0x2_0011);
 }
 
 fn names() {
@@ -110,6 +143,8 @@ fn main() {
     openings(&image, &mut map);
     let mut page = [0u8; 512];
     pages(&mut page);
+    counted_pages(&mut page);
+    bad_names(&mut page);
     names();
     more_names();
 }

@@ -17,7 +17,7 @@ use Rattle.format.specs.Place.{linkable}
 use Rattle.refusal.specs.Answer.{Answer, given, refused, andThen}
 use Rattle.table.specs.declared.Table.{Table}
 use Rattle.page.specs.OneRow.{readRow}
-use Rattle.page.proofs.OneRowAnswer.{read-row-good, start-fits}
+use Rattle.page.proofs.OneRowAnswer.{read-row-good, start-good}
 use Rattle.bitmap.specs.Bit.{bit}
 use Rattle.intake.specs.Private.{Sound}
 use Rattle.intake.specs.Memory.{Memory, blockAt}
@@ -123,12 +123,12 @@ module _ (len : ℕ) (m : Memory) (table : Table) (sound : Sound len m) where
       let page = pagePart size (m .image) (place / size) in
       let ranks : runBefore size list (pageOf size list i) i ≡ rank size rows i =
       ap (λ (p : ℕ). runBefore size list (p / size) i) (same i h) ∙ run-front size list rows (place / size) i (λ j l. same j (omega arith)) in
-      let fits = start-fits (place / size) table page (place % size) (rank size rows i) there in
+      let good = start-good (place / size) table page (place % size) (rank size rows i) there in
       found-listed len m table list i
       (record {
         element = omega arith;
         named = same i h;
         page = r .page;
         read = rw ranks (read-row-good (place / size) table page (place % size) (rank size rows i)
-            (record { header = r .header; rows = fits .0; fits = fits .1; here = there; good = r .good }));
+            (record { header = r .header; rows = good .0; index = good .1; here = there; good = r .good }));
       })

@@ -1,3 +1,3 @@
--- Numbers of two and four bytes, also at the end of the bytes (Number), and what they depend on (NumberAgree).
+-- Numbers of two, three and four bytes, also at the end of the bytes (Number), and what they depend on (NumberAgree).
 pub mod Number
 pub mod NumberAgree

@@ -10,7 +10,7 @@ use lib.Seq.{getD-drop, getD-take}
 use lib.Dec.{ltb, leb}
 use borrow.Author.Tests.{le-leb, lt-ltb, ltb-true, ltb-false, leb-true}
 use Rattle.lists.specs.Alias.{Bytes}
-use Rattle.number.specs.Number.{byteAt, le16, le32, be16, be32}
+use Rattle.number.specs.Number.{byteAt, le16, le24, le32, be16, be32}
 use Rattle.number.specs.Agree.{Agree, within}
 use Rattle.number.proofs.Number.{byte-past, le32-bytes, be32-bytes}
 use Rattle.lists.proofs.Choice.{on, both-true}
@@ -61,6 +61,10 @@ module _ {s t : Bytes} (at : ℕ) where
   pub le16-agree : Agree (within at 2) s t → le16 s at ≡ le16 t at
   unfolding le16
   le16-agree a = two-agree (λ (low high : ℕ). low + 256 * high) a
+
+  pub le24-agree : Agree (within at 3) s t → le24 s at ≡ le24 t at
+  unfolding le24
+  le24-agree a = rw (le16-agree (agree-less (λ i e. within-less at 2 at 3 i (omega arith) (omega arith) e) a), byte 2 3 (omega arith) a)
 
   pub le32-agree : Agree (within at 4) s t → le32 s at ≡ le32 t at
   le32-agree a = le32-bytes s at ∙ four-agree (λ (a b c d : ℕ). a + 256 * b + 65536 * c + 16777216 * d) a ∙ sym (le32-bytes t at)

@@ -10,6 +10,10 @@ byteAt s at = getD s at 0
 unfoldable pub le16 : (s : Bytes) (at : ℕ) → ℕ
 le16 s at = byteAt s at + 256 * byteAt s (at + 1)
 
+-- three bytes: a number of two bytes and a high byte
+unfoldable pub le24 : (s : Bytes) (at : ℕ) → ℕ
+le24 s at = le16 s at + 65536 * byteAt s (at + 2)
+
 -- four bytes: two numbers of two bytes, the low one first
 unfoldable pub le32 : (s : Bytes) (at : ℕ) → ℕ
 le32 s at = le16 s at + 65536 * le16 s (at + 2)

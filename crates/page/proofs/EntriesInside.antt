@@ -2,14 +2,15 @@
 use mathlib.Core.Path.{_≡_}
 use mathlib.Core.Bool.{true, false}
 use mathlib.Core.List.{[], _∷_}
-use Prim.Native.Nat.{ℕ, _+_, _-_, _*_, _/_, _%_, _<_, _≤_}
+use Prim.Native.Nat.{ℕ, zero, suc, _+_, _-_, _*_, _/_, _%_, _<_, _≤_}
 use native.Mathlib.Omega.{arith}
+use lib.ListN.{length}
 use lib.Dec.{eqb}
 use borrow.Author.Tests.{eqb-true}
-use Rattle.lists.specs.Alias.{Bytes}
+use Rattle.lists.specs.Alias.{Bytes, Places}
 use Rattle.format.specs.Size.{groupSize}
 use Rattle.page.specs.Index.{indexSize, present, rowStart, presentFrom}
-use Rattle.lists.proofs.Choice.{on, left-step}
+use Rattle.lists.proofs.Choice.{on, cond-holds, left-step}
 
 -- entry i's flags and offset lie in an index of more than i entries
 pub entry-room : (n i : ℕ) → i < n → groupSize * (i / 16) + 6 + 2 * (i % 16) ≤ indexSize n
@@ -33,3 +34,11 @@ entry-present page h e = rw (left-step h, e)
 pub entry-none : (page : Bytes) (n i : ℕ) → n ≤ i → presentFrom page (n - i) i ≡ []
 unfolding presentFrom
 entry-none page n i h = let e : n - i ≡ 0 = omega arith in rw e
+
+-- there are no more rows than entries
+pub few-present : (page : Bytes) (k i : ℕ) → length (presentFrom page k i) ≤ k
+unfolding presentFrom
+few-present page zero i = omega arith
+few-present page (suc k) i =
+    let h = few-present page k (i + 1) in
+    cond-holds (λ (l : Places). length l ≤ suc k) (present page i) (λ e. omega arith) (λ e. omega arith)

@@ -12,10 +12,11 @@ use Rattle.row.specs.Check.{checkRow}
 use Rattle.page.specs.declared.RowIndex.{RowIndex}
 use Rattle.page.specs.Header.{headerAgrees, rowless, entries}
 use Rattle.page.specs.Index.{presentFrom}
-use Rattle.page.specs.Read.{indexFits, beforeIndex, rowStarts, onPage}
+use Rattle.page.specs.Read.{indexGood, beforeIndex, rowStarts, onPage}
 use Rattle.page.specs.Row.{pageRow}
 use Rattle.page.specs.OneRow.{isRow, readRow}
 use Rattle.page.specs.Private.{rowIndex}
+use Rattle.page.proofs.RowStarts.{index-good, index-bad}
 
 module _ (number : ℕ) (table : Table) (page : Bytes) (start rank : ℕ) where
   pub header-rung : headerAgrees number table page ≡ false → refused (fault 12 number) ≡ readRow number table page start rank
@@ -31,23 +32,23 @@ module _ (number : ℕ) (table : Table) (page : Bytes) (start rank : ℕ) where
       flag : rowless page ≡ false
       flag = rw e at r
 
-      pub index-rung : index .fits ≡ false → refused (fault 13 number) ≡ readRow number table page start rank
+      pub index-rung : index .good ≡ false → refused (fault 13 number) ≡ readRow number table page start rank
       unfolding readRow
-      index-rung f = let unfit : indexFits page ≡ false = rw e at f in rw (h, flag, unfit)
+      index-rung f = rw (h, flag, index-bad page e r f)
 
-      module _ (f : index .fits ≡ true) {here : Bool} (s : here ≡ isElement start (nth (presentFrom page (index .entries) 0) rank 0)) where
-        fit : indexFits page ≡ true
-        fit = rw e at f
+      module _ (f : index .good ≡ true) {here : Bool} (s : here ≡ isElement start (nth (presentFrom page (index .entries) 0) rank 0)) where
+        good : indexGood page ≡ true
+        good = index-good page e f .1
 
         is-row : here ≡ isRow page start rank
         unfolding isRow pageRow rowStarts
-        is-row = rw (flag, fit) (rw e at s)
+        is-row = rw (flag, good) (rw e at s)
 
         pub start-rung : here ≡ false → refused (fault 18 0) ≡ readRow number table page start rank
         unfolding readRow
-        start-rung w = rw (h, flag, fit, ← is-row, w)
+        start-rung w = rw (h, flag, good, ← is-row, w)
 
         pub row-rung : here ≡ true → {answer : Answer (Unit {0})} → answer ≡ onPage number (checkRow table (drop start (take (index .start) page)))
             → answer ≡ readRow number table page start rank
         unfolding readRow beforeIndex
-        row-rung w a = rw (h, flag, fit, ← is-row, w) (rw e at a)
+        row-rung w a = rw (h, flag, good, ← is-row, w) (rw e at a)

@@ -2,31 +2,32 @@
 --     read-agree                    the answer
 --     starts-same, parts-same       the rows' starts, and the relevant bytes of each row
 --     row-read-agree, one-part      the answer where one row is read (rule 7.14), and the relevant bytes of that row
-use mathlib.Core.Path.{_≡_, refl}
-use mathlib.Core.Bool.{true, false, not, _&&_, _||_, or-true, false≢true}
+use mathlib.Core.Path.{_≡_, refl, ap}
+use mathlib.Core.Bool.{true, false, not, _&&_, or-true, false≢true}
 use mathlib.Core.List.{[], _∷_}
 use Prim.Native.Nat.{ℕ, zero, suc, _+_, _-_, _<_, _≤_}
 use native.Mathlib.Omega.{arith}
 use lib.ListN.{length, take, drop, length-drop}
 use lib.Dec.{ltb, leb}
 use borrow.Author.Tests.{ltb-true, lt-ltb, le-leb, not-false}
-use Rattle.number.specs.Number.{byteAt, le16, le32}
+use Rattle.number.specs.Number.{byteAt, le24, le32}
 use Rattle.number.specs.Agree.{Agree, within}
 use Rattle.table.specs.declared.Table.{Table}
 use Rattle.row.specs.Bytes.{rowByte}
-use Rattle.page.specs.Header.{headerAgrees, rowless, entries}
+use Rattle.page.specs.Header.{headerAgrees, rowless, entries, num-rows}
 use Rattle.page.specs.Index.{indexSize, flagsAt, offsetAt, present, rowStart, presentFrom}
-use Rattle.page.specs.Read.{indexFits, beforeIndex, rowStarts, checkRows, readPage}
+use Rattle.page.specs.Read.{indexFits, countAgrees, indexGood, beforeIndex, rowStarts, checkRows, readPage}
 use Rattle.page.specs.Row.{pageRow}
 use Rattle.page.specs.OneRow.{isRow, readRow}
-use Rattle.page.specs.Bytes.{headerByte, rowByteAt, indexByte, entryByte, entriesByte, pageByte, oneRowByte}
+use Rattle.page.specs.Bytes.{headerByte, flagsByte, offsetByte, rowByteAt, entryByte, entriesByte, pageByte, oneRowByte}
 use Rattle.lists.specs.Alias.{Bytes, Places}
 use Rattle.lists.specs.Any.{anyFrom}
 use Rattle.lists.proofs.Each.{Each}
 use Rattle.lists.proofs.Any.{any-at}
 use Rattle.lists.proofs.Choice.{on, cond-holds, cond-agree, or-left, or-right}
-use Rattle.number.proofs.NumberAgree.{agree-less, agree-inside, take-agree, drop-agree, byte-agree, le16-agree, le32-agree}
+use Rattle.number.proofs.NumberAgree.{agree-less, agree-inside, take-agree, drop-agree, byte-agree, le16-agree, le24-agree, le32-agree}
 use Rattle.row.proofs.RowAgree.{check-agree}
+use Rattle.page.proofs.RowStarts.{good-parts}
 
 -- the header's fields, in file order
 module _ {s t : Bytes} (a : Agree headerByte s t) where
@@ -42,17 +43,13 @@ module _ {s t : Bytes} (a : Agree headerByte s t) where
   unfolding headerByte
   next-page-agree = le32-agree 0x0c (agree-less (λ i e. simp (e, or-true)) a)
 
-  small-agree : byteAt s 0x18 ≡ byteAt t 0x18
+  counts-agree : le24 s 0x18 ≡ le24 t 0x18
   unfolding headerByte
-  small-agree = byte-agree 0x18 (agree-less (λ i e. simp (e, or-true)) a)
+  counts-agree = le24-agree 0x18 (agree-less (λ i e. simp (e, or-true)) a)
 
   flags-agree : byteAt s 0x1b ≡ byteAt t 0x1b
   unfolding headerByte
   flags-agree = byte-agree 0x1b (agree-less (λ i e. simp (e, or-true)) a)
-
-  large-agree : le16 s 0x22 ≡ le16 t 0x22
-  unfolding headerByte
-  large-agree = le16-agree 0x22 (agree-less (λ i e. simp (e, or-true)) a)
 
   header-agree : (number : ℕ) (table : Table) → headerAgrees number table s ≡ headerAgrees number table t
   unfolding headerAgrees
@@ -64,7 +61,11 @@ module _ {s t : Bytes} (a : Agree headerByte s t) where
 
   entries-agree : entries s ≡ entries t
   unfolding entries
-  entries-agree = rw (small-agree, large-agree)
+  entries-agree = rw counts-agree
+
+  counted-agree : num-rows s ≡ num-rows t
+  unfolding num-rows
+  counted-agree = rw counts-agree
 
   fits-agree : indexFits s ≡ indexFits t
   unfolding indexFits
@@ -88,18 +89,18 @@ abbrev pub RowAgree : (table : Table) (rows other : Bytes) (start : ℕ) → Typ
 RowAgree table rows other start = Agree (rowByte table (drop start rows)) (drop start rows) (drop start other)
 
 -- one entry: its flag and its row's start
-module _ {s t : Bytes} (j : ℕ) (a : Agree (indexByte s j) s t) where
+module _ {s t : Bytes} (j : ℕ) (a : Agree (within (flagsAt s j) 2) s t) where
   flags-at : flagsAt s j ≡ flagsAt t j
   unfolding flagsAt
   flags-at = rw (a .long)
 
   present-agree : present s j ≡ present t j
-  unfolding present indexByte
-  present-agree = rw (le16-agree (flagsAt s j) (agree-less (λ i e. or-left _ e) a), flags-at)
+  unfolding present
+  present-agree = rw (le16-agree (flagsAt s j) a, flags-at)
 
-  start-agree : present s j ≡ true → rowStart s j ≡ rowStart t j
-  unfolding rowStart offsetAt indexByte
-  start-agree p = rw (le16-agree (offsetAt s j) (agree-less (λ i e. or-right (within (flagsAt s j) 2 i) (rw (p, e))) a), flags-at)
+  start-agree : Agree (offsetByte s j) s t → present s j ≡ true → rowStart s j ≡ rowStart t j
+  unfolding rowStart offsetAt offsetByte
+  start-agree o p = rw (le16-agree (offsetAt s j) (agree-less (λ i e. rw (p, e)) o), flags-at)
 
 -- a row's part of the page agrees where its bytes do
 part-agree : (table : Table) {s t : Bytes} (start limit : ℕ) → beforeIndex s ≡ take limit s → Agree (rowByteAt table (beforeIndex s) start) s t
@@ -115,21 +116,43 @@ before-agree : {s t : Bytes} → Agree headerByte s t → beforeIndex t ≡ take
 unfolding beforeIndex
 before-agree a = rw (← a .long, ← entries-agree a)
 
--- the starts of all entries' rows
-module _ {s t : Bytes} (n : ℕ) (each : (j : ℕ) → j < n → Agree (indexByte s j) s t) where
-  starts-agree : (k j : ℕ) → j + k ≤ n → presentFrom s k j ≡ presentFrom t k j
+-- all entries: how many are present, and then the starts of their rows
+module _ {s t : Bytes} (n : ℕ) (flags : (j : ℕ) → j < n → Agree (within (flagsAt s j) 2) s t) where
+  count-agree : (k j : ℕ) → j + k ≤ n → length (presentFrom s k j) ≡ length (presentFrom t k j)
   unfolding presentFrom
-  starts-agree zero j h = refl
-  starts-agree (suc k) j h =
-      let rest = starts-agree k (j + 1) (omega arith) in
-      let e = each j (omega arith) in
-      rw (← present-agree j e, rest) (cond-agree (present s j) (λ p. rw (start-agree j e p)) (λ p. refl))
+  count-agree zero j h = refl
+  count-agree (suc k) j h =
+      let rest = count-agree k (j + 1) (omega arith) in
+      rw (← present-agree j (flags j (omega arith))) (on (present s j) (λ p. rw p (ap suc rest)) (λ p. rw p rest))
 
-  -- the rows of a page whose header fields agree
-  whole-starts : Agree headerByte s t → n ≡ entries s → rowless s ≡ false → indexFits s ≡ true → rowStarts s ≡ rowStarts t
+  starts-agree : ((j : ℕ) → j < n → Agree (offsetByte s j) s t) → (k j : ℕ) → j + k ≤ n → presentFrom s k j ≡ presentFrom t k j
+  unfolding presentFrom
+  starts-agree offsets zero j h = refl
+  starts-agree offsets (suc k) j h =
+      let rest = starts-agree offsets k (j + 1) (omega arith) in
+      let f = flags j (omega arith) in
+      rw (← present-agree j f, rest) (cond-agree (present s j) (λ p. rw (start-agree j f (offsets j (omega arith)) p)) (λ p. refl))
+
+flags-each : {s t : Bytes} → Agree (flagsByte s) s t → (j : ℕ) → j < entries s → Agree (within (flagsAt s j) 2) s t
+unfolding flagsByte
+flags-each {s} a j l = agree-less (λ i e. any-at (λ (k : ℕ). within (flagsAt s k) 2 i) (entries s) 0 j (omega arith) (omega arith) e) a
+
+-- pages whose header fields agree, and so do the flags of an index that fits
+module _ {s t : Bytes} (a : Agree headerByte s t) (flags : rowless s ≡ false → indexFits s ≡ true → Agree (flagsByte s) s t) where
+  good-agree : rowless s ≡ false → indexGood s ≡ indexGood t
+  unfolding indexGood countAgrees
+  good-agree r =
+      rw (← fits-agree a, ← entries-agree a, ← counted-agree a)
+      (on (indexFits s) (λ f. rw (f, count-agree (entries s) (flags-each (flags r f)) (entries s) 0 (omega arith))) (λ f. rw f))
+
+  whole-starts : (rowless s ≡ false → indexGood s ≡ true → (j : ℕ) → j < entries s → Agree (offsetByte s j) s t) → rowStarts s ≡ rowStarts t
   unfolding rowStarts
-  whole-starts a e r f =
-      rw (← rowless-agree a, ← fits-agree a, ← entries-agree a, r, f, ← e) (starts-agree n 0 (omega arith))
+  whole-starts offsets =
+      rw (← rowless-agree a)
+      (cond-agree (rowless s) (λ _. refl)
+      (λ r. rw (← good-agree r, ← entries-agree a)
+      (cond-agree (indexGood s)
+      (λ g. starts-agree (entries s) (flags-each (flags r (good-parts s g .0))) (offsets r g) (entries s) 0 (omega arith)) (λ _. refl))))
 
 -- all entries' rows
 module _ (table : Table) {s t : Bytes} (n : ℕ) (each : (j : ℕ) → j < n → Agree (entryByte table s j) s t) where
@@ -139,7 +162,7 @@ module _ (table : Table) {s t : Bytes} (n : ℕ) (each : (j : ℕ) → j < n →
   rows-agree limit before (suc k) j h =
       let rest = rows-agree limit before k (j + 1) (omega arith) in
       cond-holds (Each (RowAgree table (take limit s) (take limit t))) (present s j)
-      (λ p. (part-agree table (rowStart s j) limit before (agree-less (λ i e. or-right (indexByte s j i) (rw (p, e))) (each j (omega arith))), rest))
+      (λ p. (part-agree table (rowStart s j) limit before (agree-less (λ i e. or-right (offsetByte s j i) (rw (p, e))) (each j (omega arith))), rest))
       (λ _. rest)
 
 rows-check : (table : Table) (rows other : Bytes) (starts : Places) → Each (RowAgree table rows other) starts
@@ -154,39 +177,43 @@ module _ (number : ℕ) (table : Table) {s t : Bytes} (a : Agree (pageByte numbe
   unfolding pageByte
   headers = agree-less (λ i e. or-left _ e) a
 
-  index-bytes : headerAgrees number table s ≡ true → rowless s ≡ false → indexFits s ≡ true → (j : ℕ) → j < entries s → Agree (entryByte table s j) s t
-  unfolding pageByte entriesByte
-  index-bytes h r f j l =
-      agree-less
-      (λ i e. or-right (headerByte i) (rw (h, r, f, any-at (λ (k : ℕ). entryByte table s k i) (entries s) 0 j (omega arith) (omega arith) e))) a
+  module _ (h : headerAgrees number table s ≡ true) where
+    flag-bytes : rowless s ≡ false → indexFits s ≡ true → Agree (flagsByte s) s t
+    unfolding pageByte
+    flag-bytes r f = agree-less (λ i e. or-right (headerByte i) (rw (h, r, f) (or-left _ e))) a
 
-  pub starts-same : headerAgrees number table s ≡ true → rowStarts s ≡ rowStarts t
-  unfolding rowStarts entryByte
-  starts-same h =
-      rw (← rowless-agree headers, ← fits-agree headers, ← entries-agree headers)
-      (cond-agree (rowless s) (λ _. refl)
-      (λ r. cond-agree (indexFits s)
-      (λ f. starts-agree (entries s) (λ j l. agree-less (λ i e. or-left _ e) (index-bytes h r f j l)) (entries s) 0 (omega arith)) (λ _. refl)))
+    entry-bytes : rowless s ≡ false → indexGood s ≡ true → (j : ℕ) → j < entries s → Agree (entryByte table s j) s t
+    unfolding pageByte entriesByte
+    entry-bytes r g j l =
+        let good = good-parts s g in
+        agree-less
+        (λ i e. or-right (headerByte i)
+        (rw (h, r, good .0, good .1)
+        (or-right (flagsByte s i) (any-at (λ (k : ℕ). entryByte table s k i) (entries s) 0 j (omega arith) (omega arith) e)))) a
 
-  pub parts-same : headerAgrees number table s ≡ true → Each (RowAgree table (beforeIndex s) (beforeIndex t)) (rowStarts s)
-  unfolding rowStarts
-  parts-same h =
-      let All = Each (RowAgree table (beforeIndex s) (beforeIndex t)) in
-      cond-holds All (rowless s) (λ _. tt)
-      (λ r. cond-holds All (indexFits s)
-      (λ f. rw (before s, before-agree headers)
-      (rows-agree table (entries s) (index-bytes h r f) (length s - indexSize (entries s)) (before s) (entries s) 0 (omega arith))) (λ _. tt))
+    pub starts-same : rowStarts s ≡ rowStarts t
+    unfolding entryByte
+    starts-same = whole-starts headers flag-bytes (λ r g j l. agree-less (λ i e. or-left _ e) (entry-bytes r g j l))
 
-  checks-same : headerAgrees number table s ≡ true → checkRows table (beforeIndex s) (rowStarts s) ≡ checkRows table (beforeIndex t) (rowStarts s)
-  checks-same h = rows-check table (beforeIndex s) (beforeIndex t) (rowStarts s) (parts-same h)
+    pub parts-same : Each (RowAgree table (beforeIndex s) (beforeIndex t)) (rowStarts s)
+    unfolding rowStarts
+    parts-same =
+        let All = Each (RowAgree table (beforeIndex s) (beforeIndex t)) in
+        cond-holds All (rowless s) (λ _. tt)
+        (λ r. cond-holds All (indexGood s)
+        (λ g. rw (before s, before-agree headers)
+        (rows-agree table (entries s) (entry-bytes r g) (length s - indexSize (entries s)) (before s) (entries s) 0 (omega arith))) (λ _. tt))
+
+    checks-same : checkRows table (beforeIndex s) (rowStarts s) ≡ checkRows table (beforeIndex t) (rowStarts s)
+    checks-same = rows-check table (beforeIndex s) (beforeIndex t) (rowStarts s) parts-same
 
   pub read-agree : readPage number table s ≡ readPage number table t
   unfolding readPage
   read-agree =
-      rw (← header-agree headers number table)
+      rw (← header-agree headers number table, ← rowless-agree headers)
       (cond-agree (not (headerAgrees number table s)) (λ _. refl)
       (λ e. let h = not-false (headerAgrees number table s) e in
-      rw (checks-same h, starts-same h, rowless-agree headers, fits-agree headers, a .long)))
+      cond-agree (rowless s) (λ _. refl) (λ r. rw (checks-same h, starts-same h, good-agree headers (flag-bytes h) r, a .long))))
 
 -- a page of which one row is read
 module _ (number : ℕ) (table : Table) (start rank : ℕ) {s t : Bytes} (a : Agree (oneRowByte number table s start rank) s t) where
@@ -194,34 +221,45 @@ module _ (number : ℕ) (table : Table) (start rank : ℕ) {s t : Bytes} (a : Ag
   unfolding oneRowByte
   one-headers = agree-less (λ i e. or-left _ e) a
 
-  module _ (h : headerAgrees number table s ≡ true) (r : rowless s ≡ false) (f : indexFits s ≡ true) where
-    one-index : (j : ℕ) → j < entries s → Agree (indexByte s j) s t
+  module _ (h : headerAgrees number table s ≡ true) where
+    one-flags : rowless s ≡ false → indexFits s ≡ true → Agree (flagsByte s) s t
     unfolding oneRowByte
-    one-index j l =
+    one-flags r f = agree-less (λ i e. or-right (headerByte i) (rw (h, r, f) (or-left _ e))) a
+
+    one-offsets : rowless s ≡ false → indexGood s ≡ true → (j : ℕ) → j < entries s → Agree (offsetByte s j) s t
+    unfolding oneRowByte
+    one-offsets r g j l =
+        let good = good-parts s g in
         agree-less
-        (λ i e. or-right (headerByte i) (rw (h, r, f) (or-left _ (any-at (λ (k : ℕ). indexByte s k i) (entries s) 0 j (omega arith) (omega arith) e)))) a
+        (λ i e. or-right (headerByte i)
+        (rw (h, r, good .0, good .1)
+        (or-right (flagsByte s i) (or-left _ (any-at (λ (k : ℕ). offsetByte s k i) (entries s) 0 j (omega arith) (omega arith) e))))) a
 
     is-row-agree : isRow s start rank ≡ isRow t start rank
     unfolding isRow pageRow
-    is-row-agree = rw (whole-starts (entries s) one-index one-headers refl r f)
+    is-row-agree = rw (whole-starts one-headers one-flags one-offsets)
 
     -- the row's part
-    pub one-part : isRow s start rank ≡ true → RowAgree table (beforeIndex s) (beforeIndex t) start
+    pub one-part : rowless s ≡ false → indexGood s ≡ true → isRow s start rank ≡ true → RowAgree table (beforeIndex s) (beforeIndex t) start
     unfolding oneRowByte
-    one-part w =
+    one-part r g w =
+        let good = good-parts s g in
         rw (before s, before-agree one-headers)
         (part-agree table start (length s - indexSize (entries s)) (before s)
-        (agree-less (λ i e. or-right (headerByte i) (rw (h, r, f, w) (or-right (anyFrom (λ (k : ℕ). indexByte s k i) (entries s) 0) e))) a))
+        (agree-less
+        (λ i e. or-right (headerByte i)
+        (rw (h, r, good .0, good .1, w) (or-right (flagsByte s i) (or-right (anyFrom (λ (k : ℕ). offsetByte s k i) (entries s) 0) e)))) a))
 
   pub row-read-agree : readRow number table s start rank ≡ readRow number table t start rank
   unfolding readRow
   row-read-agree =
-      rw (← header-agree one-headers number table, ← rowless-agree one-headers, ← fits-agree one-headers)
+      rw (← header-agree one-headers number table, ← rowless-agree one-headers)
       (cond-agree (not (headerAgrees number table s)) (λ _. refl)
       (λ e. let h = not-false (headerAgrees number table s) e in
       cond-agree (rowless s) (λ _. refl)
-      (λ r. cond-agree (not (indexFits s)) (λ _. refl)
-      (λ g. let f = not-false (indexFits s) g in
-      rw (← is-row-agree h r f)
+      (λ r. rw (← good-agree one-headers (one-flags h) r)
+      (cond-agree (not (indexGood s)) (λ _. refl)
+      (λ b. let g = not-false (indexGood s) b in
+      rw (← is-row-agree h)
       (cond-agree (not (isRow s start rank)) (λ _. refl)
-      (λ n. rw (check-agree table (one-part h r f (not-false (isRow s start rank) n)))))))))
+      (λ n. rw (check-agree table (one-part h r g (not-false (isRow s start rank) n))))))))))

@@ -10,8 +10,9 @@ use Rattle.table.specs.declared.Table.{Table}
 use Rattle.page.specs.declared.RowIndex.{RowIndex}
 use Rattle.page.specs.Header.{headerAgrees, rowless, entries}
 use Rattle.page.specs.Index.{presentFrom}
-use Rattle.page.specs.Read.{indexFits, beforeIndex, rowStarts, checkRows, onPage, places, readPage, rowCount}
+use Rattle.page.specs.Read.{beforeIndex, rowStarts, checkRows, onPage, places, readPage, rowCount}
 use Rattle.page.specs.Private.{rowIndex, checkedCount}
+use Rattle.page.proofs.RowStarts.{index-good, index-bad}
 
 count-then : (answer : Answer (Unit {0})) (rows : Places) → andThen answer (λ _. given (length rows)) ≡ rowCount (andThen answer (λ _. given rows))
 count-then (given u) rows = refl
@@ -31,16 +32,16 @@ module _ (number : ℕ) (table : Table) (page : Bytes) where
       flag : rowless page ≡ false
       flag = rw e at r
 
-      pub index-rung : index .fits ≡ false → refused (fault 13 number) ≡ rowCount (readPage number table page)
+      pub index-rung : index .good ≡ false → refused (fault 13 number) ≡ rowCount (readPage number table page)
       unfolding readPage
-      index-rung f = let unfit : indexFits page ≡ false = rw e at f in rw (h, flag, unfit)
+      index-rung f = rw (h, flag, index-bad page e r f)
 
-      pub rows-rung : index .fits ≡ true
+      pub rows-rung : index .good ≡ true
           → checkedCount number table (take (index .start) page) (presentFrom page (index .entries) 0) ≡ rowCount (readPage number table page)
       unfolding readPage checkedCount beforeIndex rowStarts
       rows-rung f =
-          let fit : indexFits page ≡ true = rw e at f in
+          let good = index-good page e f .1 in
           let starts = presentFrom page (entries page) 0 in
           let start = number * length page in
-          rw (h, flag, fit, e, ← length-map starts (λ (row : ℕ). start + row))
+          rw (h, flag, good, e, ← length-map starts (λ (row : ℕ). start + row))
           (count-then (onPage number (checkRows table (beforeIndex page) starts)) (places start starts))

@@ -11,36 +11,43 @@ use Rattle.table.specs.declared.Table.{Table}
 use Rattle.row.specs.Bytes.{rowByte}
 use Rattle.page.specs.Header.{headerAgrees, rowless, entries}
 use Rattle.page.specs.Index.{flagsAt, offsetAt, present, rowStart}
-use Rattle.page.specs.Read.{indexFits, beforeIndex}
+use Rattle.page.specs.Read.{indexFits, countAgrees, beforeIndex}
 use Rattle.page.specs.OneRow.{isRow}
 
--- Rule 7.3: page_index, type, next_page, num_rows_small, page_flags, num_rows_large
+-- Rule 7.3: page_index, type, next_page, the row counts, page_flags
 unfoldable pub headerByte : ℕ → Bool
-headerByte i = within 0x04 4 i || (within 0x08 4 i || (within 0x0c 4 i || (within 0x18 1 i || (within 0x1b 1 i || within 0x22 2 i))))
+headerByte i = within 0x04 4 i || (within 0x08 4 i || (within 0x0c 4 i || (within 0x18 3 i || within 0x1b 1 i)))
+
+-- Rule 7.5: the presence flags of an entry's group
+unfoldable pub flagsByte : (page : Bytes) (i : ℕ) → Bool
+flagsByte page i = anyFrom (λ (j : ℕ). within (flagsAt page j) 2 i) (entries page) 0
+
+-- Rule 7.5: the offset of entry j, where it is present
+unfoldable pub offsetByte : (page : Bytes) (j i : ℕ) → Bool
+offsetByte page j i = present page j && within (offsetAt page j) 2 i
 
 -- Rules 7.6, 7.7: byte i of the page is a relevant byte of the row at start; rows is the part before the index.
 unfoldable pub rowByteAt : (table : Table) (rows : Bytes) (start i : ℕ) → Bool
 rowByteAt table rows start i = leb start i && (ltb i (length rows) && rowByte table (drop start rows) (i - start))
 
--- Rule 7.5: the flags of entry j's group; its offset only where it is present.
-unfoldable pub indexByte : (page : Bytes) (j i : ℕ) → Bool
-indexByte page j i = within (flagsAt page j) 2 i || (present page j && within (offsetAt page j) 2 i)
-
--- Rules 7.5, 7.6: those, and the row of an entry that is present.
+-- Rules 7.5, 7.6: the offset and the row of entry j, where it is present
 unfoldable pub entryByte : (table : Table) (page : Bytes) (j i : ℕ) → Bool
-entryByte table page j i = indexByte page j i || (present page j && rowByteAt table (beforeIndex page) (rowStart page j) i)
+entryByte table page j i = offsetByte page j i || (present page j && rowByteAt table (beforeIndex page) (rowStart page j) i)
 
--- a byte of one of the entries
+-- those of one of the entries
 unfoldable pub entriesByte : (table : Table) (page : Bytes) (i : ℕ) → Bool
 entriesByte table page i = anyFrom (λ (j : ℕ). entryByte table page j i) (entries page) 0
 
--- Rule 7.4: nothing beyond the header where the header disagrees, flag `40` is set or the index does not fit.
+-- Rule 7.4: nothing beyond the header where the header disagrees, flag `40` is set or the index does not fit, and beyond that
+-- only flags where their ones are not as many as the page counts.
 unfoldable pub pageByte : (number : ℕ) (table : Table) (page : Bytes) (i : ℕ) → Bool
 pageByte number table page i =
-    headerByte i || (headerAgrees number table page && (not (rowless page) && (indexFits page && entriesByte table page i)))
+    headerByte i || (headerAgrees number table page && (not (rowless page) && (indexFits page
+    && (flagsByte page i || (countAgrees page && entriesByte table page i)))))
 
 -- Rule 7.14: the same where one row is read, named by its start and its rank: the whole row index, and of the rows this one alone.
 unfoldable pub oneRowByte : (number : ℕ) (table : Table) (page : Bytes) (start rank i : ℕ) → Bool
 oneRowByte number table page start rank i =
     headerByte i || (headerAgrees number table page && (not (rowless page) && (indexFits page
-    && (anyFrom (λ (j : ℕ). indexByte page j i) (entries page) 0 || (isRow page start rank && rowByteAt table (beforeIndex page) start i)))))
+    && (flagsByte page i || (countAgrees page
+    && (anyFrom (λ (j : ℕ). offsetByte page j i) (entries page) 0 || (isRow page start rank && rowByteAt table (beforeIndex page) start i)))))))

@@ -1,9 +1,9 @@
 -- Rules 4.11 to 4.14: the page header, in file order, under the published names.
-use mathlib.Core.Bool.{Bool, cond, not, _&&_}
-use Prim.Native.Nat.{ℕ, _/_, _%_}
-use lib.Dec.{ltb, eqb}
+use mathlib.Core.Bool.{Bool, _&&_}
+use Prim.Native.Nat.{ℕ, _/_, _%_, _^_}
+use lib.Dec.{eqb}
 use Rattle.lists.specs.Alias.{Bytes}
-use Rattle.number.specs.Number.{byteAt, le16, le32}
+use Rattle.number.specs.Number.{byteAt, le24, le32}
 use Rattle.table.specs.declared.Table.{Table}
 use Rattle.table.specs.Table.{tableNumber}
 
@@ -16,14 +16,12 @@ type page = le32 page 0x08
 abbrev pub next-page : Bytes → ℕ
 next-page page = le32 page 0x0c
 
-abbrev pub num-rows-small : Bytes → ℕ
-num-rows-small page = byteAt page 0x18
+-- Rule 4.14: the three bytes from `18` on are one number of 24 bits that holds two counts.
+abbrev pub row-counts : Bytes → ℕ
+row-counts page = le24 page 0x18
 
 abbrev pub page-flags : Bytes → ℕ
 page-flags page = byteAt page 0x1b
-
-abbrev pub num-rows-large : Bytes → ℕ
-num-rows-large page = le16 page 0x22
 
 -- Rule 4.12.
 unfoldable pub headerAgrees : (number : ℕ) (table : Table) (page : Bytes) → Bool
@@ -33,9 +31,10 @@ headerAgrees number table page = eqb (page-index page) number && eqb (type page)
 unfoldable pub rowless : Bytes → Bool
 rowless page = eqb (page-flags page / 0x40 % 2) 1
 
--- Rule 4.14: n, from num_rows_small and num_rows_large.
-abbrev pub entryCount : (small large : ℕ) → ℕ
-entryCount small large = cond (ltb small large && not (eqb large 0x1fff)) large small
-
+-- Rule 4.14: n, the number of entries in the row index: the low 13 bits.
 unfoldable pub entries : Bytes → ℕ
-entries page = entryCount (num-rows-small page) (num-rows-large page)
+entries page = row-counts page % 2 ^ 13
+
+-- Rule 4.14: the number of present rows, as the page counts them: the high 11 bits.
+unfoldable pub num-rows : Bytes → ℕ
+num-rows page = row-counts page / 2 ^ 13

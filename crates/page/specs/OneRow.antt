@@ -12,7 +12,7 @@ use Rattle.row.specs.Check.{checkRow}
 use Rattle.page.specs.declared.RowRead.{RowRead}
 use Rattle.page.specs.declared.RowRead.the-variants.{Good, Refused}
 use Rattle.page.specs.Header.{headerAgrees, rowless}
-use Rattle.page.specs.Read.{indexFits, beforeIndex, onPage}
+use Rattle.page.specs.Read.{indexGood, beforeIndex, onPage}
 use Rattle.page.specs.Row.{pageRow}
 
 -- is true exactly when the page has a present row of this rank, and it starts there
@@ -24,7 +24,7 @@ unfoldable pub readRow : (number : ℕ) (table : Table) (page : Bytes) (start ra
 readRow number table page start rank =
     refuseIf (not (headerAgrees number table page)) (fault 12 number)
     (refuseIf (rowless page) (fault 18 0)
-    (refuseIf (not (indexFits page)) (fault 13 number)
+    (refuseIf (not (indexGood page)) (fault 13 number)
     (refuseIf (not (isRow page start rank)) (fault 18 0)
     (onPage number (checkRow table (drop start (beforeIndex page)))))))
 

@@ -1,10 +1,10 @@
--- Rules 4.10, 4.15, 5.4, 5.10: reading a page. The page is its own part of the image, so its length is len_page.
+-- Rules 4.10, 4.15, 5.4, 5.10, 5.33: reading a page. The page is its own part of the image, so its length is len_page.
 -- It rests on the page's header and row index (specs/Header, specs/Index) and on the check of a row (row/Check).
-use mathlib.Core.Bool.{Bool, cond, not}
+use mathlib.Core.Bool.{Bool, cond, not, _&&_}
 use mathlib.Core.List.{[], _∷_, map}
 use Prim.Native.Nat.{ℕ, _+_, _-_, _*_}
 use lib.ListN.{length, take, drop}
-use lib.Dec.{leb}
+use lib.Dec.{leb, eqb}
 use Rattle.lists.specs.Alias.{Bytes, Places}
 use Rattle.format.specs.Size.{heapStart}
 use Rattle.refusal.specs.Fault.{fault, faultOf}
@@ -13,20 +13,28 @@ use Rattle.table.specs.declared.Table.{Table}
 use Rattle.row.specs.Check.{checkRow}
 use Rattle.page.specs.declared.PageRead.{PageRead}
 use Rattle.page.specs.declared.PageRead.the-variants.{Rows, Refused}
-use Rattle.page.specs.Header.{headerAgrees, rowless, entries}
+use Rattle.page.specs.Header.{headerAgrees, rowless, entries, num-rows}
 use Rattle.page.specs.Index.{indexSize, presentFrom}
 
 -- Rule 5.4: header and index fit the page.
 unfoldable pub indexFits : (page : Bytes) → Bool
 indexFits page = leb (heapStart + indexSize (entries page)) (length page)
 
+-- Rule 5.33: as many of the entries are present as the page counts rows.
+unfoldable pub countAgrees : (page : Bytes) → Bool
+countAgrees page = eqb (length (presentFrom page (entries page) 0)) (num-rows page)
+
+-- Rules 5.4, 5.33: the row index is good; 13 is given where it is not.
+unfoldable pub indexGood : (page : Bytes) → Bool
+indexGood page = indexFits page && countAgrees page
+
 -- Rule 5.8: the part of the page that rows may use.
 unfoldable pub beforeIndex : (page : Bytes) → Bytes
 beforeIndex page = take (length page - indexSize (entries page)) page
 
--- the starts of the page's present rows; none with flag `40` (rule 4.13) or where the index does not fit
+-- the starts of the page's present rows; none with flag `40` (rule 4.13) or where the index is not good
 unfoldable pub rowStarts : (page : Bytes) → Places
-rowStarts page = cond (rowless page) [] (cond (indexFits page) (presentFrom page (entries page) 0) [])
+rowStarts page = cond (rowless page) [] (cond (indexGood page) (presentFrom page (entries page) 0) [])
 
 -- Rule 5.10: the rows at these starts, one after the other; rows is the part before the index.
 unfoldable pub checkRows : (table : Table) (rows : Bytes) (starts : Places) → Answer (Unit {0})
@@ -47,7 +55,7 @@ unfoldable pub readPage : (number : ℕ) (table : Table) (page : Bytes) → Answ
 readPage number table page =
     refuseIf (not (headerAgrees number table page)) (fault 12 number)  -- 4.12
     (cond (rowless page) (given [])  -- 4.13
-    (refuseIf (not (indexFits page)) (fault 13 number)  -- 5.4
+    (refuseIf (not (indexGood page)) (fault 13 number)  -- 5.4, 5.33
     (andThen (onPage number (checkRows table (beforeIndex page) (rowStarts page)))
     (λ _. given (places (number * length page) (rowStarts page))))))
 

@@ -1,17 +1,18 @@
 // Reading one page: its header, its row index and its rows. A page is its own part of the image.
 ghost use mathlib.Core.Path.{_≡_};
-ghost use Prim.Native.Nat.{_+_, _-_, _*_, _/_, _%_, _<_, _≤_};
+ghost use Prim.Native.Nat.{_+_, _-_, _*_, _/_, _%_, _^_, _<_, _≤_};
 ghost use lib.ListN.{length, set, take, drop};
+ghost use Rattle.number.specs.Number.{le16};
 ghost use Rattle.format.specs.Size.{heapStart, groupSize};
 ghost use Rattle.lists.specs.Write.{written};
 ghost use Rattle.lists.specs.Nth.{nth, isElement};
 ghost use Rattle.row.specs.Check.{checkRow, checkOf};
-ghost use Rattle.page.specs.Header.{next-page, headerAgrees, rowless, entries};
-ghost use Rattle.page.specs.Index.{indexSize, present, rowStart, presentFrom};
-ghost use Rattle.page.specs.Read.{beforeIndex, onPage, places, rowPlaces, readPage, rowCount, pageReadOf};
+ghost use Rattle.page.specs.Header.{next-page, headerAgrees, rowless, entries, num-rows};
+ghost use Rattle.page.specs.Index.{indexSize, flagsAt, present, rowStart, presentFrom};
+ghost use Rattle.page.specs.Read.{indexGood, beforeIndex, onPage, places, rowPlaces, readPage, rowCount, pageReadOf};
 ghost use Rattle.page.specs.Row.{pageRow, rowAtOf, Near};
 ghost use Rattle.page.specs.OneRow.{readRow, rowReadOf};
-ghost use Rattle.page.specs.Private.{rowIndex, entriesRead, checkedCount};
+ghost use Rattle.page.specs.Private.{rowIndex, entriesRead, groupOnes, checkedCount};
 use format::Page;
 use format::RowGroup;
 use refusal::Refusal;
@@ -30,13 +31,13 @@ pub enum RowRead {
     Refused(Refusal),
 }
 
-// What a page's header says of its row index.
+// A page's row index.
 struct RowIndex {
     // The page has flag 40, and so no rows.
     rowless: bool,
     entries: u16,
-    // Whether header and index fit the page.
-    fits: bool,
+    // The page may have rows: it has no flag 40, the index fits, and as many entries are present as the header counts.
+    good: bool,
     // Where the index begins, 0 if it is longer than the page.
     start: usize,
 }
@@ -64,17 +65,18 @@ fn is_rowless(page: &[u8]) -> bool
     number::byte_at(page, 0x1b) / 0x40 % 2 == 1
 }
 
-// The number of entries of the page's row index.
+// The number of entries of the page's row index: the low 13 bits of the row counts.
 fn entry_count(page: &[u8]) -> u16
-    ensures { λ r. ⌜ r ≡ entries (now (page .entry)) ⌝ }
+    ensures { λ r. ⌜ (r ≡ entries (now (page .entry))) × (r < 2 ^ 13) ⌝ }
 {
-    let small = number::byte_at(page, 0x18) as u16;
-    let large = number::u16_at(page, 0x22);
-    if small < large {
-        if large == 0x1fff { small } else { large }
-    } else {
-        small
-    }
+    (number::u24_at(page, 0x18) % 0x2000) as u16
+}
+
+// The number of present rows, as the page counts them: the high 11 bits of the row counts.
+fn num_rows(page: &[u8]) -> u32
+    ensures { λ r. ⌜ r ≡ num-rows (now (page .entry)) ⌝ }
+{
+    number::u24_at(page, 0x18) / 0x2000
 }
 
 // Bytes that a row index of n entries takes.
@@ -96,7 +98,64 @@ fn index_start(len: usize, size: usize) -> usize
     if len < size { 0 } else { len - size }
 }
 
-// One reading of the header for all that use the row index.
+// The presence flags of entry i's group.
+fn flags_of(page: &[u8], i: u16) -> u16
+    requires { ⌜ groupSize * (i / 16) + 4 ≤ length (now page) ⌝ }
+    ensures { λ r. ⌜ r ≡ le16 (now (page .entry)) (flagsAt (now (page .entry)) i) ⌝ }
+{
+    let group = (i / 16) as usize;
+    number::u16_at(page, page.len() - RowGroup::SIZE * group - 4)
+}
+
+// Whether entry i of the row index is present.
+fn is_present(page: &[u8], i: u16) -> bool
+    requires { ⌜ groupSize * (i / 16) + 4 ≤ length (now page) ⌝ }
+    ensures { λ r. ⌜ r ≡ present (now (page .entry)) i ⌝ }
+{
+    (flags_of(page, i) >> (i % 16)) % 2 == 1
+}
+
+// The ones among the flags of the group whose first entry is i, where so many entries are left.
+fn group_ones(page: &[u8], left: u16, i: u16) -> u32
+    requires { ⌜ groupSize * (i / 16) + 4 ≤ length (now page) ⌝ }
+    ensures { λ r. ⌜ r ≡ groupOnes (now (page .entry)) left i ⌝ }
+{
+    let flags = flags_of(page, i);
+    if left < 16 {
+        return u16::count_ones(flags % (1u16 << left));
+    }
+    u16::count_ones(flags)
+}
+
+// The ones among the flags of n entries, summed group by group.
+fn present_count(page: &[u8], n: u16) -> u32
+    requires { ⌜ (indexSize n ≤ length (now page)) × (n < 2 ^ 13) ⌝ }
+    ensures { λ r. ⌜ r ≡ length (presentFrom (now (page .entry)) n 0) ⌝ }
+{
+    let mut i: u16 = 0;
+    let mut count: u32 = 0;
+    while i < n {
+        count += group_ones(page, n - i, i);
+        i += 16;
+    }
+    count
+}
+
+// Whether an index of n entries fits the page and has as many present entries as the page counts.
+fn is_good(page: &[u8], n: u16, size: usize) -> bool
+    requires { ⌜ (n ≡ entries (now page)) × (size ≡ indexSize n) × (n < 2 ^ 13) ⌝ }
+    ensures { λ r. ⌜ r ≡ indexGood (now (page .entry)) ⌝ }
+{
+    let end = Page::HEAP + size;
+    if page.len() < end {
+        return false;
+    }
+    let counted = num_rows(page);
+    let ones = present_count(page, n);
+    ones == counted
+}
+
+// One reading of the row index for all that use it. With flag 40 no presence flag is looked at.
 fn row_index(page: &[u8]) -> RowIndex
     ensures { λ r. ⌜ (r ≡ rowIndex (now (page .entry))) × (r .start ≤ length (now (page .entry))) ⌝ }
 {
@@ -104,10 +163,15 @@ fn row_index(page: &[u8]) -> RowIndex
     let entries = entry_count(page);
     let size = index_size(entries);
     let start = index_start(page.len(), size);
+    let good = if rowless {
+        false
+    } else {
+        is_good(page, entries, size)
+    };
     RowIndex {
         rowless,
         entries,
-        fits: Page::HEAP + size <= page.len(),
+        good,
         start,
     }
 }
@@ -116,20 +180,7 @@ fn row_index(page: &[u8]) -> RowIndex
 fn entries_read(index: RowIndex) -> u16
     ensures { λ r. ⌜ r ≡ entriesRead index ⌝ }
 {
-    if index.rowless {
-        return 0;
-    }
-    if index.fits { index.entries } else { 0 }
-}
-
-// Whether entry i of the row index is present.
-fn is_present(page: &[u8], i: u16) -> bool
-    requires { ⌜ groupSize * (i / 16) + 4 ≤ length (now page) ⌝ }
-    ensures { λ r. ⌜ r ≡ present (now (page .entry)) i ⌝ }
-{
-    let group = (i / 16) as usize;
-    let flags = number::u16_at(page, page.len() - RowGroup::SIZE * group - 4);
-    (flags >> (i % 16)) % 2 == 1
+    if index.good { index.entries } else { 0 }
 }
 
 // Where the row of entry i starts in the page.
@@ -198,7 +249,7 @@ pub fn read(page: &[u8], number: u32, table: Table) -> PageRead
         if index.rowless {
             return PageRead::Rows(0);
         }
-        if index.fits {
+        if index.good {
             read_rows(page, &page[..index.start], number, table, index.entries)
         } else {
             PageRead::Refused(Refusal::RowIndex(number))
@@ -296,7 +347,7 @@ pub fn read_row(page: &[u8], number: u32, table: Table, start: usize, rank: usiz
     if index.rowless {
         return RowRead::Refused(Refusal::NoRow);
     }
-    if !index.fits {
+    if !index.good {
         return RowRead::Refused(Refusal::RowIndex(number));
     }
     if !is_row(page, index.entries, start, rank) {

@@ -3,8 +3,8 @@
 use std::collections::HashSet;
 use std::ops::Range;
 
-use crate::model::bytes::{u16_at, u32_at};
-use crate::model::{entries, index_size, Table, BLOCK_SIZE, GROUP_SIZE, PAGE_HEADER};
+use crate::model::bytes::{u16_at, u24_at, u32_at};
+use crate::model::{index_size, RowCounts, Table, BLOCK_SIZE, GROUP_SIZE, PAGE_HEADER};
 
 #[derive(Clone, Copy)]
 pub(crate) struct Layout<'a> {
@@ -75,27 +75,48 @@ impl<'a> Layout<'a> {
     pub fn page_start(self, page: u32) -> usize {
         page as usize * self.len_page()
     }
+
     pub fn page_type(self, page: u32) -> u32 {
         u32_at(self.bytes, self.page_start(page) + 0x08)
     }
 
-    /// The entries of a page, if it yields rows and its index fits.
-    pub fn entries(self, page: u32) -> Vec<Entry> {
+    pub fn row_counts(self, page: u32) -> RowCounts {
+        RowCounts::of(u24_at(self.bytes, self.page_start(page) + 0x18))
+    }
+
+    fn page_flags(self, page: u32) -> u8 {
+        self.bytes[self.page_start(page) + 0x1b]
+    }
+
+    /// Where the presence flags of an entry's group stand in the file, if the
+    /// page's index is as long as that.
+    pub fn flags_at(self, page: u32, entry: usize) -> usize {
         let page_end = self.page_start(page) + self.len_page();
-        let header = &self.bytes[self.page_start(page)..][..PAGE_HEADER];
-        let count = usize::from(entries(header[0x18], u16_at(header, 0x22)));
+        page_end - GROUP_SIZE * (entry / 16) - 4
+    }
+
+    pub fn is_present(self, page: u32, entry: usize) -> bool {
+        let flags = u16_at(self.bytes, self.flags_at(page, entry));
+        flags >> (entry % 16) & 1 == 1
+    }
+
+    /// The entries of a page, if it yields rows and its index fits. Whether its
+    /// number of present rows is right does not matter.
+    pub fn entries(self, page: u32) -> Vec<Entry> {
+        let page_start = self.page_start(page);
+        let count = usize::from(self.row_counts(page).num_row_offsets);
         let index = index_size(count);
-        if header[0x1b] & 0x40 != 0 || PAGE_HEADER + index > self.len_page() {
+        if self.page_flags(page) & 0x40 != 0 || PAGE_HEADER + index > self.len_page() {
             return Vec::new();
         }
-        let heap = self.page_start(page) + PAGE_HEADER..page_end - index;
+        let heap = page_start + PAGE_HEADER..page_start + self.len_page() - index;
         let entry = |entry: usize| {
-            let flags_at = page_end - GROUP_SIZE * (entry / 16) - 4;
+            let flags_at = self.flags_at(page, entry);
             let offset_at = flags_at - 2 - 2 * (entry % 16);
             Entry {
                 flags_at,
                 offset_at,
-                present: u16_at(self.bytes, flags_at) >> (entry % 16) & 1 == 1,
+                present: self.is_present(page, entry),
                 start: heap.start + usize::from(u16_at(self.bytes, offset_at)),
                 heap: heap.clone(),
             }

@@ -42,7 +42,7 @@ pub enum Refusal {
     PageLink(u64),
     /// 12: the page's header disagrees.
     PageHeader(u64),
-    /// 13: the page's row index does not fit.
+    /// 13: the page's row index does not fit, or has not as many rows as the page counts.
     RowIndex(u64),
     /// 14: a row of the page does not fit, or is an artist of unknown subtype.
     RowShort(u64),
@@ -185,7 +185,10 @@ impl fmt::Display for Refusal {
             Self::PageLink(0) => write!(f, "a link of the directory leaves the file"),
             Self::PageLink(page) => write!(f, "the link of page {page} leaves the file"),
             Self::PageHeader(page) => write!(f, "the header of page {page} disagrees"),
-            Self::RowIndex(page) => write!(f, "the row index of page {page} does not fit"),
+            Self::RowIndex(page) => write!(
+                f,
+                "the row index of page {page} does not fit or has not as many rows as counted"
+            ),
             Self::RowShort(page) => write!(f, "a row of page {page} does not fit"),
             Self::TextFault(page) => write!(f, "a string of page {page} is malformed"),
             Self::ChainLoop => write!(f, "the chain meets a page twice"),

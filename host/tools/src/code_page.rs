@@ -9,51 +9,64 @@ const FIXED: usize = 0x88;
 /// Four head bytes and the `03` before a code.
 const HEAD: usize = 5;
 
-/// A page of 32,768 bytes of which every entry of the index names one row, at the start of the heap. Slot 0 of the row
-/// names a string of kind `90` that stands behind the fixed part and ends where the index begins: a recording code
-/// whose only zero byte is its last. The other slots name an empty string, the row's first byte.
+/// The most entries and the most present rows that the header of a page can tell.
+const MOST_ENTRIES: usize = (1 << 13) - 1;
+const MOST_ROWS: usize = (1 << 11) - 1;
+
+/// A page of 32,768 bytes of which every present entry of the index names one row, at the start of the heap. Slot 0 of
+/// the row names a string of kind `90` that stands behind the fixed part and ends where the index begins: a recording
+/// code whose only zero byte is its last. The other slots name an empty string, the row's first byte.
 ///
 /// A code that overlaps the fixed part could begin at most 44 bytes earlier.
 #[derive(Clone, Copy, Debug, PartialEq, Eq)]
 pub struct CodePage {
     entries: usize,
+    /// The presence flags of each group.
+    flags: u16,
 }
 
 impl CodePage {
-    /// The page with the most bytes to search: the index takes the room of the code, so it is about half of the page.
+    /// The page with the most bytes to search: as many rows as a page can have, and no other entries, since the index
+    /// takes the room of the code.
     ///
     /// ```
     /// use sarvoltig_tools::code_page::CodePage;
     ///
     /// let page = CodePage::longest_search();
-    /// assert_eq!((page.entries(), page.code_len()), (7_248, 16_278));
+    /// assert_eq!((page.entries(), page.rows(), page.code_len()), (2_047, 2_047, 27_980));
     /// ```
     pub fn longest_search() -> Self {
-        let searched = |page: &Self| page.entries * (page.code_len() + 1);
-        Self::all().max_by_key(searched).expect("a page")
+        Self {
+            entries: MOST_ROWS,
+            flags: 0xffff,
+        }
     }
 
-    /// The page with the most rows.
+    /// The page with the most entries, of which every fourth is present, which gives as many rows as a page can have.
     ///
     /// ```
     /// use sarvoltig_tools::code_page::CodePage;
     ///
-    /// let page = CodePage::most_rows();
-    /// assert_eq!((page.entries(), page.code_len()), (14_481, 0));
+    /// let page = CodePage::most_entries();
+    /// assert_eq!((page.entries(), page.rows(), page.code_len()), (8_191, 2_047, 14_156));
     /// ```
-    pub fn most_rows() -> Self {
-        Self::all().last().expect("a page")
+    pub fn most_entries() -> Self {
+        Self {
+            entries: MOST_ENTRIES,
+            flags: 0x8888,
+        }
     }
 
-    /// All that leave room for a code, by their numbers of entries.
-    fn all() -> impl Iterator<Item = Self> {
-        let pages = (1..).map(|entries| Self { entries });
-        pages.take_while(|page| page.string().len() > HEAD)
-    }
-
-    /// The number of its entries, which are its rows.
+    /// The number of its entries.
     pub fn entries(self) -> usize {
         self.entries
+    }
+
+    /// The number of its rows. Flags behind the last entry do not count.
+    pub fn rows(self) -> usize {
+        (0..self.entries)
+            .filter(|entry| self.flags >> (entry % 16) & 1 == 1)
+            .count()
     }
 
     /// The length of the code's text.
@@ -83,19 +96,20 @@ impl CodePage {
             (0x24, 1),
             (0x28, 1),
             (LEN_PAGE + 0x04, 1),
-            (LEN_PAGE + 0x22, self.entries),
         ];
         for (at, number) in numbers {
             file[at..at + 2].copy_from_slice(&(number as u16).to_le_bytes());
         }
+        let row_counts = (self.entries | self.rows() << 13) as u32;
+        file[LEN_PAGE + 0x18..LEN_PAGE + 0x1b].copy_from_slice(&row_counts.to_le_bytes()[..3]);
         self.put_rows(&mut file[LEN_PAGE..]);
         file
     }
 
     fn put_rows(self, page: &mut [u8]) {
         for group in 0..self.entries.div_ceil(16) {
-            let flags = LEN_PAGE - GROUP_SIZE * group - 4;
-            page[flags..flags + 2].fill(0xff);
+            let at = LEN_PAGE - GROUP_SIZE * group - 4;
+            page[at..at + 2].copy_from_slice(&self.flags.to_le_bytes());
         }
         page[PAGE_HEADER] = 0x03;
         let string = &mut page[self.string()];

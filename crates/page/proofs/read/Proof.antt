@@ -2,7 +2,7 @@
 use mathlib.Core.Path.{sym, _∙_}
 use lib.Seq.{length-take-le}
 use borrow.Author.Needs.{needs}
-use Rattle.page.proofs.RowStarts.{index-fits}
+use Rattle.page.proofs.RowStarts.{good-inside}
 use Rattle.page.proofs.ReadRungs.{header-rung, rowless-rung, index-rung, rows-rung}
 use Rattle.page.proofs.read.Statement.{statement}
 use Rattle.page.proofs.read.Tie as tie
@@ -22,7 +22,7 @@ slice-aggregate-read-rows : tie.Need-slice-aggregate-read-rows
 slice-aggregate-read-rows c = sym (length-take-le _ _ (c .before .before .before .row-index .ensures .1))
 
 read-rows-requires : tie.Need-read-rows-requires
-read-rows-requires c κs = index-fits _ (c .before .before .before .row-index .ensures .0) (c .before .if3 .taken)
+read-rows-requires c κs = good-inside _ (c .before .before .before .row-index .ensures .0) (c .before .if3 .taken)
 
 returns-2 : tie.Need-returns-2
 returns-2 c =

@@ -3,7 +3,7 @@ use mathlib.Core.Path.{sym, _∙_}
 use lib.Seq.{length-take-le}
 use borrow.Author.Needs.{needs}
 use borrow.Author.Tests.{not-true, not-false}
-use Rattle.page.proofs.RowStarts.{index-fits}
+use Rattle.page.proofs.RowStarts.{good-inside}
 use Rattle.page.proofs.OneRowRungs.{header-rung, rowless-rung, index-rung, start-rung, row-rung}
 use Rattle.page.proofs.read_row.Statement.{statement}
 use Rattle.page.proofs.read_row.Tie as tie
@@ -32,7 +32,7 @@ returns-3 c =
     index-rung _ _ _ _ _ (index .row-index .ensures .0) agrees (flag .if2 .left) (not-true _ (c .if3 .taken))
 
 is-row-requires : tie.Need-is-row-requires
-is-row-requires c κs = index-fits _ (c .before .before .before .row-index .ensures .0) (not-false _ (c .if3 .left))
+is-row-requires c κs = good-inside _ (c .before .before .before .row-index .ensures .0) (not-false _ (c .if3 .left))
 
 returns-4 : tie.Need-returns-4
 returns-4 c =

@@ -1,8 +1,8 @@
 -- `page::row_index` meets its contract: its fields are what the calls give.
+use mathlib.Core.Path.{refl}
 use native.Mathlib.Omega.{arith}
+use Rattle.page.proofs.RowStarts.{rowless-index, judged-index}
 use borrow.Author.Needs.{needs}
-use Rattle.page.proofs.EntriesInside.{index-bound}
-use Rattle.page.proofs.RowStarts.{index-read}
 use Rattle.page.proofs.row_index.Statement.{statement}
 use Rattle.page.proofs.row_index.Tie as tie
 
@@ -18,14 +18,27 @@ index-size-requires c κs = search needs
 index-start-requires : tie.Need-index-start-requires
 index-start-requires c κs = search needs
 
-add-t6 : tie.Need-add-t6
-add-t6 c = omega (arith, c .before .index-size .ensures, index-bound (c .before .before .entry-count .result) (omega arith))
+is-good-requires : tie.Need-is-good-requires
+is-good-requires c κs = search needs
 
 returns : tie.Need-returns
 returns c =
-    let size = c .before in (
-      index-read _ (size .before .before .is-rowless .ensures) (size .before .entry-count .ensures) (size .index-size .ensures) (c .index-start .ensures),
-      omega (arith, c .index-start .ensures),
+    let start = c .before in
+    let size = start .before in
+    let n = size .before in
+    let flag = n .before .is-rowless .ensures in (
+      rowless-index _ flag (n .entry-count .ensures .0) (size .index-size .ensures) (start .index-start .ensures) (c .if1 .taken) refl,
+      omega (arith, start .index-start .ensures),
+    )
+
+returns-2 : tie.Need-returns-2
+returns-2 c =
+    let start = c .before .before in
+    let size = start .before in
+    let n = size .before in
+    let flag = n .before .is-rowless .ensures in (
+      judged-index _ flag (n .entry-count .ensures .0) (size .index-size .ensures) (start .index-start .ensures) (c .before .if1 .left) (c .is-good .ensures),
+      omega (arith, start .index-start .ensures),
     )
 
 pub row-index-spec : {M : Type 1} → statement M
@@ -36,5 +49,6 @@ row-index-spec =
     entry-count-requires
     index-size-requires
     index-start-requires
-    add-t6
-    returns)
+    is-good-requires
+    returns
+    returns-2)

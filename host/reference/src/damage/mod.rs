@@ -1,6 +1,7 @@
 //! Damaged exports.
 
 mod codes;
+mod counts;
 mod header;
 mod pages;
 mod rows;
@@ -36,14 +37,24 @@ pub enum Kind {
     NextPage,
     /// next_page of a page becomes that page or one before it in the chain.
     Loop,
-    /// num_rows_small of a page.
-    NumRowsSmall,
-    /// num_rows_large of a page.
-    NumRowsLarge,
+    /// num_row_offsets of a page, the number of its entries.
+    NumRowOffsets,
+    /// num_rows of a page, the number of its present rows.
+    NumRows,
+    /// num_row_offsets and num_rows of a page change places.
+    RowCountsSwapped,
+    /// A bit of row_counts, the number that has both.
+    RowCountsBit,
+    /// num_row_offsets becomes too great by one for the page.
+    IndexTooLong,
+    /// Bytes `22`-`23` of a page, on which no answer depends.
+    UnreadCount,
     /// page_flags of a page.
     PageFlags,
     /// The presence flags of a group.
     Presence,
+    /// A presence flag, below or behind the last entry.
+    PresenceBit,
     /// The offset of a row.
     RowOffset,
     /// The first bytes of a row, where an artist has its subtype.
@@ -73,7 +84,7 @@ pub enum Kind {
 
 impl Kind {
     /// All kinds.
-    pub const ALL: [Kind; 27] = [
+    pub const ALL: [Kind; 32] = [
         Kind::FirstBytes,
         Kind::LenPage,
         Kind::NumTables,
@@ -85,10 +96,15 @@ impl Kind {
         Kind::PageType,
         Kind::NextPage,
         Kind::Loop,
-        Kind::NumRowsSmall,
-        Kind::NumRowsLarge,
+        Kind::NumRowOffsets,
+        Kind::NumRows,
+        Kind::RowCountsSwapped,
+        Kind::RowCountsBit,
+        Kind::IndexTooLong,
+        Kind::UnreadCount,
         Kind::PageFlags,
         Kind::Presence,
+        Kind::PresenceBit,
         Kind::RowOffset,
         Kind::RowStart,
         Kind::RowAtEnd,
@@ -113,19 +129,19 @@ impl Kind {
         &Kind::ALL[4..11]
     }
 
-    /// Kinds about the number of rows of a page.
+    /// Kinds about the counts and the presence flags of a page.
     fn of_counts() -> &'static [Kind] {
-        &Kind::ALL[11..15]
+        &Kind::ALL[11..20]
     }
 
     /// Kinds about rows and strings.
     fn of_rows() -> &'static [Kind] {
-        &Kind::ALL[15..21]
+        &Kind::ALL[20..26]
     }
 
     /// Kinds about recording codes, for files with tracks.
     fn of_codes() -> &'static [Kind] {
-        &Kind::ALL[21..24]
+        &Kind::ALL[26..29]
     }
 }
 
@@ -144,13 +160,13 @@ pub fn damage(export: &[u8], rng: &mut Rng) -> Vec<u8> {
     let pointers = Layout::new(export).table_pointers();
     let has_tracks = pointers.iter().any(|(table, _)| *table == Table::Tracks);
     let tables = pointers.len().max(1) as u64;
-    let (kinds, most) = match rng.below(21) {
+    let (kinds, most) = match rng.below(23) {
         0 => (Kind::of_header(), 1),
         1..4 => (Kind::of_links(), tables.div_ceil(2)),
-        4..6 => (Kind::of_counts(), tables.div_ceil(2)),
-        6..14 => (Kind::of_rows(), tables),
-        14..16 => (&[Kind::HighByte][..], 1),
-        16..19 if has_tracks => (Kind::of_codes(), 2),
+        4..8 => (Kind::of_counts(), tables.div_ceil(2)),
+        8..16 => (Kind::of_rows(), tables),
+        16..18 => (&[Kind::HighByte][..], 1),
+        18..21 if has_tracks => (Kind::of_codes(), 2),
         _ => (&Kind::ALL[..], tables),
     };
     for _ in 0..1 + rng.below(most) {
@@ -183,10 +199,15 @@ pub fn apply(kind: Kind, export: &mut [u8], rng: &mut Rng) {
         Kind::PageType => target.page_type(),
         Kind::NextPage => target.page_link(0x0c),
         Kind::Loop => target.loop_in_chain(),
-        Kind::NumRowsSmall => target.num_rows_small(),
-        Kind::NumRowsLarge => target.num_rows_large(),
+        Kind::NumRowOffsets => target.num_row_offsets(),
+        Kind::NumRows => target.num_rows(),
+        Kind::RowCountsSwapped => target.row_counts_swapped(),
+        Kind::RowCountsBit => target.row_counts_bit(),
+        Kind::IndexTooLong => target.index_too_long(),
+        Kind::UnreadCount => target.unread_count(),
         Kind::PageFlags => target.page_flags(),
         Kind::Presence => target.presence(),
+        Kind::PresenceBit => target.presence_bit(),
         Kind::RowOffset => target.row_offset(),
         Kind::RowStart => target.row_start(),
         Kind::RowAtEnd => target.row_at_end(),

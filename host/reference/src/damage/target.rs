@@ -14,6 +14,8 @@ pub(super) struct Target<'a> {
 /// A present row. All places are in the file.
 pub(super) struct Row {
     pub table: Table,
+    /// The number of its page.
+    pub page: u32,
     /// Where the presence flags of its group stand.
     pub flags_at: usize,
     /// Where its offset stands.
@@ -49,14 +51,16 @@ impl<'a> Target<'a> {
         self.rng.pick(&read).1
     }
 
-    /// Where a page of any chain starts.
-    pub fn page(&mut self) -> Option<usize> {
+    /// The number of a page of any chain.
+    pub fn page_number(&mut self) -> Option<u32> {
         let pointer = self.pointer();
         let chain = self.layout().chain(pointer);
-        if chain.is_empty() {
-            return None;
-        }
-        let page = self.rng.pick(&chain);
+        (!chain.is_empty()).then(|| self.rng.pick(&chain))
+    }
+
+    /// Where a page of any chain starts.
+    pub fn page(&mut self) -> Option<usize> {
+        let page = self.page_number()?;
         Some(self.layout().page_start(page))
     }
 
@@ -96,6 +100,7 @@ fn present_rows(layout: Layout, page: u32) -> Vec<Row> {
         .filter(|entry| entry.present)
         .map(|entry| Row {
             table,
+            page,
             flags_at: entry.flags_at,
             offset_at: entry.offset_at,
             start: entry.start,

@@ -1,8 +1,10 @@
-//! Valid exports, with a description of what a reader finds in them.
+//! Exports, with a description of what a reader finds in them. They are valid
+//! but for pages that have another number of present rows than they tell.
 //!
-//! An export is written by putting only what the rules name; every other
-//! byte keeps what it was filled with, which is random unless the export is
-//! tidy. So the bytes that no answer may depend on are known.
+//! An export is written by putting only what the rules name, and often bytes
+//! `22` and `23` of a page, which no answer depends on; every other byte keeps
+//! what it was filled with, which is random unless the export is tidy. So the
+//! bytes that no answer may depend on are known.
 
 mod big;
 mod content;
@@ -15,7 +17,7 @@ mod write;
 
 use std::ops::Range;
 
-use crate::model::{Encoding, Table};
+use crate::model::{Encoding, Refusal, Table};
 use crate::rng::Rng;
 
 pub use options::{Large, Options};
@@ -58,6 +60,9 @@ pub struct ExpectedTable {
     pub pages: u64,
     /// Its rows in order.
     pub rows: Vec<ExpectedRow>,
+    /// What a walk along the whole chain is refused with: 13 for the first page
+    /// whose number of present rows is wrong.
+    pub fault: Option<Refusal>,
 }
 
 /// What a reader finds in a row.

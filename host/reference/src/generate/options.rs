@@ -35,6 +35,11 @@ pub struct Options {
     pub absent: u64,
     /// After how many of 100 rows a further entry names a row of the page again.
     pub repeated: u64,
+    /// To how many of 100 pages entries are added, up to a number of entries or
+    /// of present rows that is near a limit.
+    pub filled_up: u64,
+    /// On how many of 100 pages the number of present rows is mostly wrong.
+    pub wrong_counts: u64,
     /// Before how many of 100 pages a page with flag `40` stands in the chain.
     pub strange: u64,
     /// Pages off the chains.
@@ -49,8 +54,9 @@ pub struct Options {
     pub shuffled: bool,
     /// Whether the chains stand at the end of the file.
     pub at_end: bool,
-    /// Whether bytes that no rule names are zero, rows stand side
-    /// by side in the order of the index, and pages are filled.
+    /// Whether bytes that no rule names are zero but for `22` and `23` of a
+    /// page, rows stand side by side in the order of the index, and pages are
+    /// filled.
     pub tidy: bool,
 }
 
@@ -62,6 +68,8 @@ impl Default for Options {
             rows: [Some(20); 10],
             absent: 20,
             repeated: 10,
+            filled_up: 0,
+            wrong_counts: 0,
             strange: 20,
             spare_pages: 2,
             min_pages: 0,
@@ -112,6 +120,8 @@ impl Options {
             rows,
             absent: rng.pick(&[20, 60]),
             repeated: rng.pick(&[0, 40]),
+            filled_up: rng.pick(&[0, 0, 40]),
+            wrong_counts: random_wrong_counts(rng),
             strange: rng.pick(&[0, 20]),
             spare_pages: rng.below(2) as u32,
             longest_text: 30,
@@ -119,6 +129,8 @@ impl Options {
         }
     }
 
+    /// Pages of 10 blocks and more have room for 2,047 present rows, so added
+    /// entries are common there.
     fn random_medium(rng: &mut Rng) -> Self {
         let blocks = match rng.below(16) {
             0 => 64,
@@ -132,6 +144,8 @@ impl Options {
             rows: Table::ALL.map(|table| random_rows(table, blocks, rng)),
             absent: rng.pick(&[0, 10, 40]),
             repeated: rng.pick(&[0, 0, 10, 40]),
+            filled_up: rng.pick(&[0, if blocks < 10 { 30 } else { 90 }]),
+            wrong_counts: random_wrong_counts(rng),
             strange: rng.pick(&[0, 10, 50]),
             spare_pages: rng.below(3) as u32,
             min_pages: rng.pick(&[0, 0, 0, 64 / blocks, 65 / blocks]) as u32,
@@ -217,6 +231,14 @@ impl Options {
             seed: rng.next_u64(),
             ..Options::default()
         }
+    }
+}
+
+/// Most files have no page with a wrong count.
+fn random_wrong_counts(rng: &mut Rng) -> u64 {
+    match rng.below(24) {
+        0 => rng.pick(&[10, 50]),
+        _ => 0,
     }
 }
 

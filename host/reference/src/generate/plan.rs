@@ -5,11 +5,19 @@ use std::mem;
 use super::content::Row;
 use super::encode::{encode, Chunk};
 use super::Options;
-use crate::model::{index_size, Table, PAGE_HEADER};
+use crate::model::{index_size, Table, GROUP_SIZE, PAGE_HEADER};
 use crate::rng::Rng;
 
-/// `num_rows_large` cannot say `1fff` entries.
-const MOST_ENTRIES: usize = 0x1ffe;
+/// The most entries and the most present rows that a page header can tell.
+const MOST_ENTRIES: usize = (1 << 13) - 1;
+pub(super) const MOST_PRESENT: usize = (1 << 11) - 1;
+
+/// Numbers of entries that added ones lead to, beside those around groups.
+const ENTRIES_AIMED_AT: [usize; 9] = [255, 256, 257, 2047, 2048, 4095, 4096, 8190, 8191];
+/// Numbers of present rows that added entries lead to.
+const PRESENT_AIMED_AT: [usize; 6] = [256, 1023, 1024, 2046, 2047, 2047];
+/// The same, where they are more than a page may have.
+const TOO_MANY_PRESENT: [usize; 4] = [2048, 2049, 3000, 4096];
 
 /// An entry of the row index and its bytes in the heap.
 pub(super) struct Entry {
@@ -22,12 +30,26 @@ pub(super) struct Entry {
     pub first: Option<usize>,
 }
 
+impl Entry {
+    fn absent(len: usize) -> Self {
+        Entry {
+            gap: 0,
+            len,
+            row: None,
+            first: None,
+        }
+    }
+}
+
 /// A page of a chain.
 pub(super) struct Page {
     /// Whether flag `40` is set.
     pub strange: bool,
     pub entries: Vec<Entry>,
+    /// How many of them are present rows.
+    pub present: usize,
     most_entries: usize,
+    most_present: usize,
     /// Bytes of the heap that the entries take.
     heap: usize,
 }
@@ -40,18 +62,18 @@ impl Page {
             false => 1 + rng.index(options.most_entries.min(40)),
         };
         Page {
-            strange: false,
-            entries: Vec::new(),
             most_entries,
-            heap: 0,
+            ..Page::empty(false)
         }
     }
 
-    fn strange() -> Self {
+    fn empty(strange: bool) -> Self {
         Page {
-            strange: true,
+            strange,
             entries: Vec::new(),
+            present: 0,
             most_entries: 0,
+            most_present: MOST_PRESENT,
             heap: 0,
         }
     }
@@ -59,32 +81,94 @@ impl Page {
     fn fits(&self, entry: &Entry, options: &Options) -> bool {
         let heap = self.heap + entry.gap + entry.len;
         let entries = self.entries.len() + 1;
+        let present = self.present + usize::from(entry.row.is_some());
         entries <= self.most_entries
+            && present <= self.most_present
             && PAGE_HEADER + heap + index_size(entries) <= options.len_page as usize
     }
 
     fn push(&mut self, entry: Entry) {
         self.heap += entry.gap + entry.len;
+        self.present += usize::from(entry.row.is_some());
         self.entries.push(entry);
+    }
+
+    /// Adds the entry if it fits; whether it does.
+    fn push_if_fits(&mut self, entry: Entry, options: &Options) -> bool {
+        let fits = self.fits(&entry, options);
+        if fits {
+            self.push(entry);
+        }
+        fits
+    }
+
+    /// A further entry for the row that an entry names, if that is present.
+    fn again(&self, number: usize) -> Entry {
+        let named = &self.entries[number];
+        Entry {
+            gap: 0,
+            len: 0,
+            row: named.row.clone(),
+            first: named.first.or(Some(number)),
+        }
     }
 
     /// A further entry for a row of the page, one of two times the last row.
     fn name_again(&mut self, options: &Options, rng: &mut Rng) {
         let count = self.entries.len();
-        let number = match rng.chance(1, 2) {
+        let again = self.again(match rng.chance(1, 2) {
             true => count - 1,
             false => rng.index(count),
-        };
-        let named = &self.entries[number];
-        let again = Entry {
-            gap: 0,
-            len: 0,
-            row: named.row.clone(),
-            first: named.first.or(Some(number)),
-        };
-        if again.row.is_some() && self.fits(&again, options) {
-            self.push(again);
+        });
+        if again.row.is_some() {
+            self.push_if_fits(again, options);
         }
+    }
+
+    /// Adds entries that take no room in the heap, absent ones and further ones
+    /// for rows of the page, until there are at least so many entries and so
+    /// many present rows, as far as they fit.
+    fn add_entries(&mut self, entries: usize, present: usize, options: &Options, rng: &mut Rng) {
+        self.most_entries = MOST_ENTRIES;
+        self.most_present = usize::MAX;
+        let named: Vec<usize> = (0..self.entries.len())
+            .filter(|number| self.entries[*number].row.is_some())
+            .collect();
+        loop {
+            let few_entries = self.entries.len() < entries;
+            let few_present = self.present < present && !named.is_empty();
+            let entry = match (few_entries, few_present) {
+                (false, false) => return,
+                (true, false) => Entry::absent(0),
+                (true, true) if rng.chance(1, 4) => Entry::absent(0),
+                (_, true) => self.again(rng.pick(&named)),
+            };
+            if !self.push_if_fits(entry, options) {
+                return;
+            }
+        }
+    }
+
+    /// Adds entries up to a number that is near a limit.
+    fn fill_up(&mut self, options: &Options, rng: &mut Rng) {
+        let groups = options.len_page as usize / GROUP_SIZE;
+        let group = match rng.chance(1, 2) {
+            true => self.entries.len().div_ceil(16),
+            false => rng.index(groups + 1),
+        };
+        let entries = match rng.chance(1, 2) {
+            true => rng.pick(&ENTRIES_AIMED_AT),
+            false => (16 * group + rng.index(3)).saturating_sub(1),
+        };
+        let all_present = entries.min(MOST_PRESENT);
+        let (entries, present) = match rng.below(16) {
+            0..5 => (entries, 0),
+            5..9 => (all_present, all_present),
+            9..12 => (0, rng.pick(&PRESENT_AIMED_AT)),
+            12..14 => (entries, rng.pick(&PRESENT_AIMED_AT)),
+            _ => (entries, rng.pick(&TOO_MANY_PRESENT)),
+        };
+        self.add_entries(entries, present, options, rng);
     }
 }
 
@@ -94,15 +178,7 @@ pub(super) fn chain(table: Table, rows: Vec<Row>, options: &Options, rng: &mut R
     let mut page = Page::data(options, rng);
     for row in rows {
         if rng.chance(options.absent, 100) {
-            let absent = Entry {
-                gap: 0,
-                len: rng.index(30),
-                row: None,
-                first: None,
-            };
-            if page.fits(&absent, options) {
-                page.push(absent);
-            }
+            page.push_if_fits(Entry::absent(rng.index(30)), options);
         }
         let mut entry = row_entry(table, row, options, rng);
         if !page.fits(&entry, options) {
@@ -115,6 +191,11 @@ pub(super) fn chain(table: Table, rows: Vec<Row>, options: &Options, rng: &mut R
         }
     }
     pages.push(page);
+    for page in &mut pages {
+        if options.filled_up > 0 && rng.chance(options.filled_up, 100) {
+            page.fill_up(options, rng);
+        }
+    }
     with_strange_pages(pages, options, rng)
 }
 
@@ -137,12 +218,12 @@ fn with_strange_pages(pages: Vec<Page>, options: &Options, rng: &mut Rng) -> Vec
     let mut chain = Vec::new();
     for page in pages {
         if rng.chance(options.strange, 100) {
-            chain.push(Page::strange());
+            chain.push(Page::empty(true));
         }
         chain.push(page);
     }
     if !options.tidy && rng.chance(options.strange, 200) {
-        chain.push(Page::strange());
+        chain.push(Page::empty(true));
     }
     chain
 }

@@ -3,9 +3,9 @@
 use super::content::{Row, Tables};
 use super::encode::Chunk;
 use super::marked::MarkedBytes;
-use super::plan::{self, Entry, Page};
+use super::plan::{self, Entry, Page, MOST_PRESENT};
 use super::{Expected, ExpectedRow, ExpectedTable, ExpectedText, Export, Options};
-use crate::model::{Table, GROUP_SIZE, PAGE_HEADER};
+use crate::model::{Refusal, Table, GROUP_SIZE, PAGE_HEADER};
 use crate::rng::Rng;
 
 /// The most that num_tables may be (rule 3.6).
@@ -135,14 +135,21 @@ impl Writer<'_> {
 
     fn put_chain(&mut self, table: Table, pages: Vec<Page>, numbers: &[u32]) -> ExpectedTable {
         let mut rows = Vec::new();
+        let mut fault = None;
         for (place, page) in pages.iter().enumerate() {
             self.put_page_header(table, page, numbers[place], numbers.get(place + 1));
             if place + 1 == pages.len() {
                 self.link_back(numbers);
             }
+            if page.strange {
+                continue;
+            }
             let start = self.page_start(numbers[place]);
             let offsets = self.offsets(&page.entries);
-            self.put_index(start, &page.entries, &offsets);
+            let past_last = self.put_index(start, &page.entries, &offsets);
+            if !self.put_counts(start, page, past_last) {
+                fault = fault.or(Some(Refusal::of_page(13, numbers[place])));
+            }
             for (entry, offset) in page.entries.iter().zip(offsets) {
                 if let Some((row, chunk)) = &entry.row {
                     rows.push(self.put_row(start + PAGE_HEADER + offset, row, chunk));
@@ -153,6 +160,7 @@ impl Writer<'_> {
             table,
             pages: pages.len() as u64,
             rows,
+            fault,
         }
     }
 
@@ -169,11 +177,6 @@ impl Writer<'_> {
         }
         let page_flags = self.page_flags(page.strange);
         self.file.put(start + 0x1b, &[page_flags]);
-        if !page.strange {
-            let (num_rows_small, num_rows_large) = self.counts(page.entries.len());
-            self.file.put(start + 0x18, &[num_rows_small]);
-            self.file.put_u16(start + 0x22, num_rows_large);
-        }
     }
 
     /// next_page of a last page, which no rule looks at, may name a page of its
@@ -198,18 +201,59 @@ impl Writer<'_> {
         }
     }
 
-    /// One of the ways to write a number of entries.
-    fn counts(&mut self, entries: usize) -> (u8, u16) {
-        let large = entries as u16;
-        let by_large = entries > 0 && !self.options.tidy && self.rng.chance(1, 4);
-        match u8::try_from(entries) {
-            Ok(small) if !by_large => {
-                let unused = self.rng.below(entries as u64 + 1) as u16;
-                let options = [0, unused, large, 0x1fff];
-                (small, self.rng.pick(&options))
+    /// Puts the number of entries and the number of present rows as one number
+    /// of 24 bits. `past_last` presence flags are set behind the last entry.
+    /// Whether the second number is right.
+    fn put_counts(&mut self, start: usize, page: &Page, past_last: u32) -> bool {
+        let num_row_offsets = page.entries.len();
+        let wrong_counts = self.options.wrong_counts;
+        let num_rows = match page.present > MOST_PRESENT {
+            true => self.cut_count(page),
+            false if wrong_counts > 0 && self.rng.chance(wrong_counts, 100) => {
+                self.wrong_count(page, past_last)
             }
-            _ => (self.rng.index(entries.min(0x100)) as u8, large),
-        }
+            false => page.present,
+        };
+        let row_counts = (num_rows << 13 | num_row_offsets) as u32;
+        self.file.put(start + 0x18, &row_counts.to_le_bytes()[..3]);
+        self.fill_unread_count(start, num_row_offsets);
+        num_rows == page.present
+    }
+
+    /// A count for more present rows than a header can tell, mostly the low
+    /// bits of their number.
+    fn cut_count(&mut self, page: &Page) -> usize {
+        let low_bits = page.present & MOST_PRESENT;
+        let any = self.rng.index(MOST_PRESENT + 1);
+        self.rng.pick(&[low_bits, low_bits, MOST_PRESENT, 0, any])
+    }
+
+    /// A count that is mostly wrong: off by one, of all entries, with the
+    /// presence flags behind the last entry, or without any.
+    fn wrong_count(&mut self, page: &Page, past_last: u32) -> usize {
+        let counts = [
+            page.present + 1,
+            page.present.wrapping_sub(1),
+            page.entries.len(),
+            page.present + past_last as usize,
+            0,
+        ];
+        self.rng.pick(&counts) & MOST_PRESENT
+    }
+
+    /// Bytes `22` and `23`, which no rule names. Tidy exports have there what
+    /// older analyses took for a second number of entries; others often too.
+    fn fill_unread_count(&mut self, start: usize, entries: usize) {
+        let all = entries as u16;
+        let value = match entries {
+            _ if !self.options.tidy && self.rng.chance(1, 2) => return,
+            0..256 => {
+                let unused = self.rng.below(entries as u64 + 1) as u16;
+                self.rng.pick(&[0, unused, all, 0x1fff])
+            }
+            _ => all,
+        };
+        self.file.fill(start + 0x22, &value.to_le_bytes());
     }
 
     /// Where each entry starts in the heap.
@@ -233,11 +277,14 @@ impl Writer<'_> {
     }
 
     /// Document 003's figure of the table page. Pads and the offsets of absent
-    /// rows are not put, though such an offset may lead to a row.
-    fn put_index(&mut self, start: usize, entries: &[Entry], offsets: &[usize]) {
+    /// rows are not put, though such an offset may lead to a row. Gives how many
+    /// presence flags are set behind the last entry.
+    fn put_index(&mut self, start: usize, entries: &[Entry], offsets: &[usize]) -> u32 {
         let mut group_end = start + self.options.len_page as usize;
+        let mut past_last = 0;
         for (entries, offsets) in entries.chunks(16).zip(offsets.chunks(16)) {
             let mut flags = self.unused_flags(entries.len());
+            past_last = flags.count_ones();
             for (number, (entry, offset)) in entries.iter().zip(offsets).enumerate() {
                 let at = group_end - 6 - 2 * number;
                 if entry.row.is_some() {
@@ -252,6 +299,7 @@ impl Writer<'_> {
             self.file.put_u16(group_end - 4, flags);
             group_end -= GROUP_SIZE;
         }
+        past_last
     }
 
     /// Presence bits past the last entry.

@@ -17,7 +17,7 @@ mod string;
 mod table;
 
 pub use contents::RowContents;
-pub use page::{entries, index_size, GROUP_SIZE, PAGE_HEADER};
+pub use page::{index_size, RowCounts, GROUP_SIZE, PAGE_HEADER};
 pub use question::{RecordReply, Rows, TextReply};
 pub use received::Received;
 pub use refusal::Refusal;

@@ -1,6 +1,6 @@
-//! Page header and row index (rules 4.11 to 4.15, 5.1 to 5.10).
+//! Page header and row index (rules 4.11 to 4.15, 5.1 to 5.10, 5.33).
 
-use super::bytes::{u16_at, u32_at};
+use super::bytes::{u16_at, u24_at, u32_at};
 use super::row::Row;
 use super::{Refusal, Table};
 
@@ -31,20 +31,31 @@ pub fn index_size(entries: usize) -> usize {
     }
 }
 
-/// The number of entries that `num_rows_small` and `num_rows_large` give.
+/// The two counts of a page header. They are parts of one number, `row_counts`,
+/// which the three bytes from `18` on hold.
 ///
 /// ```
-/// use sarvoltig_reference::model::entries;
+/// use sarvoltig_reference::model::RowCounts;
 ///
-/// assert_eq!(entries(5, 300), 300);
-/// assert_eq!(entries(5, 0x1fff), 5);
+/// let counts = RowCounts::of(300 + (290 << 13));
+/// assert_eq!((counts.num_row_offsets, counts.num_rows), (300, 290));
+/// assert_eq!(RowCounts::of(0x1fff).num_row_offsets, 8_191);
 /// ```
-pub fn entries(num_rows_small: u8, num_rows_large: u16) -> u16 {
-    let small = u16::from(num_rows_small);
-    if num_rows_large > small && num_rows_large != 0x1fff {
-        num_rows_large
-    } else {
-        small
+#[derive(Clone, Copy, Debug, PartialEq, Eq)]
+pub struct RowCounts {
+    /// How many entries the row index has: the low 13 bits.
+    pub num_row_offsets: u16,
+    /// How many of these entries are present rows: the high 11 bits.
+    pub num_rows: u16,
+}
+
+impl RowCounts {
+    /// The parts of `row_counts`, a number of 24 bits.
+    pub fn of(row_counts: u32) -> Self {
+        RowCounts {
+            num_row_offsets: (row_counts & 0x1fff) as u16,
+            num_rows: (row_counts >> 13) as u16,
+        }
     }
 }
 
@@ -80,9 +91,22 @@ impl<'a> Page<'a> {
         page_flags & NO_ROWS_FLAG != 0
     }
 
-    /// The row index, if it fits.
+    fn row_counts(&self) -> RowCounts {
+        RowCounts::of(u24_at(self.bytes, 0x18))
+    }
+
+    /// The row index, if it fits and has as many present rows as the header says.
     pub fn index(&self) -> Result<Index<'_, 'a>, Refusal> {
-        let entries = usize::from(entries(self.bytes[0x18], u16_at(self.bytes, 0x22)));
+        let index = self.index_that_fits()?;
+        if index.count_present() != usize::from(self.row_counts().num_rows) {
+            return Err(Refusal::of_page(13, self.number));
+        }
+        Ok(index)
+    }
+
+    /// The row index, if it fits.
+    pub fn index_that_fits(&self) -> Result<Index<'_, 'a>, Refusal> {
+        let entries = usize::from(self.row_counts().num_row_offsets);
         let heap_end = self
             .bytes
             .len()
@@ -118,17 +142,33 @@ pub(super) struct Index<'p, 'a> {
 }
 
 impl<'a> Index<'_, 'a> {
+    /// Where the presence flags of an entry's group stand in the page.
+    fn flags_at(&self, entry: usize) -> usize {
+        let group_end = self.page.bytes.len() - GROUP_SIZE * (entry / GROUP_ENTRIES);
+        group_end - PAD_SIZE - FLAGS_SIZE
+    }
+
+    fn is_present(&self, entry: usize) -> bool {
+        let flags = u16_at(self.page.bytes, self.flags_at(entry));
+        flags >> (entry % GROUP_ENTRIES) & 1 == 1
+    }
+
+    /// The numbers of the entries that are present rows.
+    fn present(&self) -> impl Iterator<Item = usize> + '_ {
+        (0..self.entries).filter(|entry| self.is_present(*entry))
+    }
+
+    /// How many entries are present rows, whatever flags follow behind the last.
+    fn count_present(&self) -> usize {
+        self.present().count()
+    }
+
     /// Where each present row starts, counted from the page's start.
     pub fn present_starts(&self) -> impl Iterator<Item = usize> + '_ {
-        let page = self.page.bytes;
-        (0..self.entries).filter_map(move |entry| {
-            let (group, entry) = (entry / GROUP_ENTRIES, entry % GROUP_ENTRIES);
-            let flags_at = page.len() - GROUP_SIZE * group - PAD_SIZE - FLAGS_SIZE;
-            let present = u16_at(page, flags_at) >> entry & 1 == 1;
-            present.then(|| {
-                let offset = usize::from(u16_at(page, flags_at - OFFSET_SIZE * (entry + 1)));
-                PAGE_HEADER + offset
-            })
+        self.present().map(|entry| {
+            let offsets_before = OFFSET_SIZE * (entry % GROUP_ENTRIES + 1);
+            let offset = u16_at(self.page.bytes, self.flags_at(entry) - offsets_before);
+            PAGE_HEADER + usize::from(offset)
         })
     }
 

@@ -23,7 +23,7 @@ impl Refusal {
         Refusal { number, carries: 0 }
     }
 
-    pub(super) fn of_page(number: u8, page: u32) -> Self {
+    pub(crate) fn of_page(number: u8, page: u32) -> Self {
         Refusal {
             number,
             carries: u64::from(page),

@@ -1,8 +1,8 @@
 //! The cases of rules 9.1 to 9.4, and edges of single rules.
 
 use sarvoltig_reference::model::{
-    entries, index_size, read_string, Encoding, RecordReply, Refusal, Rows, Session, StringText,
-    Table, TextReply,
+    index_size, read_string, Encoding, RecordReply, Refusal, Rows, Session, StringText, Table,
+    TextReply,
 };
 
 use crate::{opened, whole};
@@ -12,7 +12,8 @@ fn refused<T>(number: u8, carries: u64) -> Result<T, Refusal> {
 }
 
 /// A file of two pages of 512 bytes; page 1 is the only page of table `table`.
-fn one_page(table: u8, heap: &[u8], num_rows_small: u8, index: &[u8]) -> Vec<u8> {
+/// It has so many entries and so many present rows.
+pub fn one_page(table: u8, heap: &[u8], [entries, present]: [u32; 2], index: &[u8]) -> Vec<u8> {
     let mut file = vec![0; 1024];
     file[0x05] = 2;
     file[0x08] = 1;
@@ -21,10 +22,17 @@ fn one_page(table: u8, heap: &[u8], num_rows_small: u8, index: &[u8]) -> Vec<u8>
     file[0x1c + 0x0c] = 1;
     file[512 + 0x04] = 1;
     file[512 + 0x08] = table;
-    file[512 + 0x18] = num_rows_small;
+    put_row_counts(&mut file[512..], entries, present);
     file[512 + 0x28..][..heap.len()].copy_from_slice(heap);
     file[1024 - index.len()..].copy_from_slice(index);
     file
+}
+
+/// Writes the 24-bit number of a page: the entries in the low 13 bits, the
+/// present rows in the high 11.
+pub fn put_row_counts(page: &mut [u8], entries: u32, present: u32) {
+    let row_counts = entries + (present << 13);
+    page[0x18..0x1b].copy_from_slice(&row_counts.to_le_bytes()[..3]);
 }
 
 /// A genre row at the front of the heap whose name is this string.
@@ -51,7 +59,7 @@ fn c4_index_sizes() {
 #[test]
 fn c5_and_c6_entries_of_a_page_of_512() {
     assert_eq!([208, 209].map(index_size), [468, 474]);
-    let asked = |entries| whole(&one_page(1, &[], entries, &[])).rows(1u8, &mut []);
+    let asked = |entries| whole(&one_page(1, &[], [entries, 0], &[])).rows(1u8, &mut []);
     assert_eq!(asked(208), Ok(Rows::Full { rows: 0, pages: 1 }));
     assert_eq!(asked(209), refused(13, 1));
 }
@@ -59,23 +67,17 @@ fn c5_and_c6_entries_of_a_page_of_512() {
 /// 436 entries need 984 bytes, all that a page of 1,024 has behind its header.
 #[test]
 fn an_index_may_fill_a_page() {
-    let asked = |num_rows_large: u16| {
+    let asked = |entries| {
         let mut file = vec![0; 2048];
-        file[..512].copy_from_slice(&one_page(1, &[], 0, &[])[..512]);
+        file[..512].copy_from_slice(&one_page(1, &[], [0, 0], &[])[..512]);
         file[0x05] = 4;
         file[1024 + 0x04] = 1;
         file[1024 + 0x08] = 1;
-        file[1024 + 0x22..][..2].copy_from_slice(&num_rows_large.to_le_bytes());
+        put_row_counts(&mut file[1024..], entries, 0);
         whole(&file).rows(1u8, &mut [])
     };
     assert_eq!(asked(436), Ok(Rows::Full { rows: 0, pages: 1 }));
     assert_eq!(asked(437), refused(13, 1));
-}
-
-#[test]
-fn c7_and_c8_counts() {
-    assert_eq!([5, 3, 0x1fff].map(|large| entries(5, large)), [5, 5, 5]);
-    assert_eq!(entries(5, 300), 300);
 }
 
 /// Every table with each of its string slots.
@@ -268,7 +270,7 @@ const HEAP: usize = 466;
 
 fn one_row(table: u8, heap: &[u8], offset: u16) -> Session {
     let [low, high] = offset.to_le_bytes();
-    whole(&one_page(table, heap, 1, &[low, high, 1, 0, 0, 0]))
+    whole(&one_page(table, heap, [1, 1], &[low, high, 1, 0, 0, 0]))
 }
 
 /// A row whose first byte is an empty string and whose other bytes are zero: so
@@ -339,7 +341,7 @@ fn rows_are_checked_one_after_another() {
     let heap = [7, 0, 0, 0, 0x01];
     let asked = |first: [u8; 2], second: [u8; 2]| {
         let index = [&second[..], &first, &[3, 0, 0, 0]].concat();
-        whole(&one_page(1, &heap, 2, &index)).rows(1u8, &mut [])
+        whole(&one_page(1, &heap, [2, 2], &index)).rows(1u8, &mut [])
     };
     assert_eq!(asked([0, 0], [0xff, 0xff]), refused(15, 1));
     assert_eq!(asked([0xff, 0xff], [0, 0]), refused(14, 1));
@@ -432,7 +434,7 @@ fn file_headers() {
 #[test]
 fn links_are_from_1_to_p_minus_1() {
     let asked = |first_page: u8, last_page: u8| {
-        let mut file = one_page(1, &[], 0, &[]);
+        let mut file = one_page(1, &[], [0, 0], &[]);
         file[0x1c + 0x08] = first_page;
         file[0x1c + 0x0c] = last_page;
         whole(&file).rows(1u8, &mut [])
@@ -446,7 +448,7 @@ fn links_are_from_1_to_p_minus_1() {
 #[test]
 fn page_headers_agree() {
     for at in (0x04..0x0c).map(|field| 512 + field) {
-        let mut file = one_page(1, &[], 0, &[]);
+        let mut file = one_page(1, &[], [0, 0], &[]);
         file[at] ^= 0x80;
         assert_eq!(whole(&file).rows(1u8, &mut []), refused(12, 1));
     }
@@ -456,7 +458,7 @@ fn page_headers_agree() {
 #[test]
 fn next_pages() {
     let asked = |next_page: u8, second_type: u8| {
-        let mut file = one_page(1, &[], 0, &[]);
+        let mut file = one_page(1, &[], [0, 0], &[]);
         file.resize(1536, 0);
         file[0x1c + 0x0c] = 2;
         file[512 + 0x0c] = next_page;
@@ -474,7 +476,7 @@ fn next_pages() {
 /// The chain is pages 1 and 2; page 1 has one row and page 2 is not held.
 #[test]
 fn a_walk_that_waits_shows_the_rows_found() {
-    let mut file = one_page(8, &[], 1, &[0, 0, 1, 0, 0, 0]);
+    let mut file = one_page(8, &[], [1, 1], &[0, 0, 1, 0, 0, 0]);
     file.resize(1536, 0);
     file[0x1c + 0x0c] = 2;
     file[512 + 0x0c] = 2;

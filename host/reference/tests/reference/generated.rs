@@ -6,7 +6,7 @@ use sarvoltig_reference::generate::{
     big, demo, export, Expected, ExpectedRow, ExpectedTable, Export, Large, Options,
 };
 use sarvoltig_reference::model::{
-    entries, index_size, Encoding, RecordReply, Refusal, Rows, Session, Table, Text, TextReply,
+    index_size, Encoding, RecordReply, Refusal, Rows, Session, Table, Text, TextReply,
 };
 use sarvoltig_reference::rng::Rng;
 
@@ -33,10 +33,16 @@ fn check_contents(session: &Session, expected: &ExpectedTable) {
     assert!(rows.next().is_none());
 }
 
-/// Asks for all rows, and for the records and strings that `asked` chooses.
+/// Asks for all rows, and for the records and strings that `asked` chooses. A
+/// table with a fault is refused.
 fn check_table(session: &Session, expected: &ExpectedTable, mut asked: impl FnMut() -> bool) {
     let table = expected.table.number();
     let mut list = vec![0; expected.rows.len()];
+    if let Some(fault) = expected.fault {
+        assert_eq!(session.rows(table, &mut list), Err(fault));
+        assert_eq!(session.record(table, 0), Err(fault));
+        return;
+    }
     let full = Rows::Full {
         rows: expected.rows.len() as u64,
         pages: expected.pages,
@@ -72,7 +78,8 @@ fn check_table(session: &Session, expected: &ExpectedTable, mut asked: impl FnMu
 fn check(file: &[u8], expected: &Expected, rng: &mut Rng) {
     let session = whole(file);
     for table in &expected.tables {
-        check_table(&session, table, || rng.chance(1, 4));
+        let one_in = 4.max(table.rows.len() as u64 / 4);
+        check_table(&session, table, || rng.chance(1, one_in));
     }
     let absent = |table: &Table| !expected.tables.iter().any(|other| other.table == *table);
     for table in Table::ALL.into_iter().filter(absent) {
@@ -149,7 +156,7 @@ fn generated_rows_are_of_every_kind() {
     }
     assert!(some_row(Table::PlaylistEntries, |file, row| {
         let page = place(row) - place(row) % len_page(file);
-        (0x01..0x1f).contains(&file[page + 0x23])
+        two_bytes(file, page + 0x18) & 0x1fff > 255
     }));
 }
 
@@ -170,8 +177,8 @@ fn isrc_string<'a>(file: &'a [u8], row: &ExpectedRow) -> &'a [u8] {
 /// Where the index of a row's page starts.
 fn index_start(file: &[u8], row: &ExpectedRow) -> usize {
     let page = row.place as usize / len_page(file) * len_page(file);
-    let count = entries(file[page + 0x18], two_bytes(file, page + 0x22));
-    page + len_page(file) - index_size(usize::from(count))
+    let entries = two_bytes(file, page + 0x18) & 0x1fff;
+    page + len_page(file) - index_size(usize::from(entries))
 }
 
 /// A code that was generated.

@@ -49,8 +49,8 @@ fn genres() -> Vec<u8> {
         put(512 * page + 0x08, &[page_type]);
     }
     put(512 + 0x0c, &[3]);
-    put(512 + 0x18, &[5]);
-    put(1536 + 0x18, &[1]);
+    put(512 + 0x18, &[5, 0x80]);
+    put(1536 + 0x18, &[1, 0x20]);
     for (place, id) in [(A, 1), (B, 2), (C, 3), (D, 4)] {
         put(place as usize, &[id, 0, 0, 0, 0x03]);
     }
@@ -189,6 +189,47 @@ fn an_index_that_does_not_fit_is_13_whatever_the_place() {
     assert_eq!(edited(edit, &[A], 0), refused(13, 1));
     assert_eq!(edited(edit, &[A + 1], 0), refused(13, 1));
     assert_eq!(edited(edit, &[A, D], 1), found(4));
+}
+
+/// Page 1 has 5 entries, of which 4 are present.
+#[test]
+fn a_wrong_number_of_present_rows_is_13_whatever_the_place() {
+    for [low, high] in [
+        [5, 0x60],
+        [5, 0xa0],
+        [5, 0],
+        [5, 0x81],
+        [4, 0x80],
+        [6, 0xe0],
+    ] {
+        let edit = |file: &mut [u8]| file[512 + 0x18..512 + 0x1a].copy_from_slice(&[low, high]);
+        assert_eq!(edited(edit, &[A], 0), refused(13, 1));
+        assert_eq!(edited(edit, &[A + 1], 0), refused(13, 1));
+        assert_eq!(edited(edit, &[A, B, B, C, C], 4), refused(13, 1));
+        assert_eq!(edited(edit, &[A, D], 1), found(4));
+    }
+}
+
+#[test]
+fn a_wrong_number_of_present_rows_comes_after_12_and_flag_40_and_before_the_row() {
+    let wrong_count = |file: &mut [u8]| file[512 + 0x19] = 0x60;
+    let wrong_page_index = |file: &mut [u8]| {
+        wrong_count(file);
+        file[512 + 0x04] = 2;
+    };
+    assert_eq!(edited(wrong_page_index, &[A], 0), refused(12, 1));
+    let without_rows = |file: &mut [u8]| {
+        wrong_count(file);
+        file[512 + 0x1b] = 0x40;
+    };
+    assert_eq!(edited(without_rows, &[A], 0), refused(18, 0));
+    let malformed = |file: &mut [u8]| file[A as usize + 4] = 0x01;
+    assert_eq!(edited(malformed, &[A], 0), refused(15, 1));
+    let both = |file: &mut [u8]| {
+        wrong_count(file);
+        malformed(file);
+    };
+    assert_eq!(edited(both, &[A], 0), refused(13, 1));
 }
 
 #[test]

@@ -1,6 +1,7 @@
 //! The tests of the reference.
 
 mod anlz;
+mod counts;
 mod desk;
 mod examples;
 mod generated;

@@ -282,7 +282,7 @@ fn generated_runs_have_packets_of_every_kind() {
 
 #[test]
 fn generated_runs_have_every_order_of_refusals_of_packets() {
-    let counts = count_kinds((0..2000).map(random_run));
+    let counts = count_kinds((0..4000).map(random_run));
     for size in ["a byte less", "a byte more", "a block less", "a block more"] {
         check_counts(&counts, &format!("refused 6: {size}, longer list"), 20);
         check_counts(&counts, &format!("refused 6: {size}, list one short"), 5);
@@ -307,7 +307,7 @@ fn generated_runs_have_every_order_of_refusals_of_packets() {
 
 #[test]
 fn large_runs_have_long_packets() {
-    let counts = count_kinds((0..9).map(large_run));
+    let counts = count_kinds((0..21).map(large_run));
     check_counts(&counts, "exact list, more", 1);
     check_counts(&counts, "new", 1000);
 }

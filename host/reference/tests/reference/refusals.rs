@@ -87,7 +87,7 @@ fn every_refusal_is_reached_and_writes_nothing() {
 fn calls_from_a_list_reach_every_refusal_that_they_have() {
     let mut reached = BTreeSet::new();
     let (mut found, mut waiting) = (0, 0);
-    for seed in 0..500 {
+    for seed in 0..1500 {
         let mut run = Run::new(Session::new(Vec::new(), Vec::new()));
         for call in random_run(seed) {
             let answer = call.make(&mut run);

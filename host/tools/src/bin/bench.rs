@@ -362,7 +362,7 @@ fn doubled(file: &[u8]) -> Vec<u8> {
 
 /// Both readers find the code in the last row.
 fn check_codes(page: CodePage, intake: &Intake, session: &Session) {
-    let last = page.entries() as u64 - 1;
+    let last = page.rows() as u64 - 1;
     let text = intake.text(Table::Tracks, last, Track::ISRC);
     let text = text.expect("a good page").found().expect("a row");
     assert_eq!(text.encoding, Encoding::Ascii);
@@ -377,7 +377,7 @@ fn check_codes(page: CodePage, intake: &Intake, session: &Session) {
 
 /// All rows of a page of recording codes: against the reference, and against the page without codes.
 fn codes(what: &str, page: CodePage, runs: usize) {
-    let rows = page.entries();
+    let rows = page.rows();
     let what = format!(
         "all rows of {what}, {},{:03} rows",
         rows / 1000,
@@ -548,8 +548,8 @@ fn main() {
         20,
     );
     codes(
-        "the page of most rows with a recording code",
-        CodePage::most_rows(),
+        "the page of most entries with a recording code",
+        CodePage::most_entries(),
         100,
     );
     beats();
