@@ -8,17 +8,11 @@ use Rattle.number.specs.Agree.{Agree}
 use Rattle.refusal.specs.Answer.{Answer, given, refused}
 use Rattle.table.specs.declared.Table.{Table}
 use Rattle.directory.specs.declared.Chain.{Chain}
-use Rattle.page.specs.Bytes.{headerByte, pageByte}
+use Rattle.page.specs.Bytes.{pageByte}
 use Rattle.chain.specs.File.{pagePart, pageNext}
 use Rattle.chain.specs.Chain.{chainWalk, chainReads}
-use Rattle.lists.proofs.Choice.{or-left}
-use Rattle.number.proofs.NumberAgree.{agree-less}
-use Rattle.page.proofs.PageAgree.{next-page-agree, read-agree}
+use Rattle.page.proofs.PageAgree.{next-same, read-agree}
 use Rattle.chain.proofs.SameWalk.{walk-from-agree}
-
-header-bytes : (number : ℕ) (table : Table) {s t : Bytes} → Agree (pageByte number table s) s t → Agree headerByte s t
-unfolding pageByte
-header-bytes number table a = agree-less (λ i e. or-left _ e) a
 
 -- two images agree on the relevant bytes of a page
 abbrev pub PageAgrees : (table : Table) (s t : Bytes) (size page : ℕ) → Type 0
@@ -30,5 +24,5 @@ pub chain-walk-agree : (table : Table) (s t : Bytes) (map : Words) (chain : Answ
 unfolding pageNext
 chain-walk-agree table s t map (given c) each =
     walk-from-agree (record { count = refl; last = λ page. refl; held = λ page l. refl }) (c .«first_page»)
-    (λ page r. let a = each c refl page r in record { read = read-agree page table a; next = next-page-agree (header-bytes page table a) })
+    (λ page r. let a = each c refl page r in record { read = read-agree page table a; next = next-same page table a })
 chain-walk-agree table s t map (refused f) each = refl

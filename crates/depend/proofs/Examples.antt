@@ -19,7 +19,7 @@ use Rattle.page.specs.Index.{indexSize, flagsAt, offsetAt, present, rowStart, p
 use Rattle.page.specs.Read.{indexFits, countAgrees, indexGood, beforeIndex, rowStarts, checkRows, readPage}
 use Rattle.page.specs.Row.{pageRow}
 use Rattle.page.specs.OneRow.{isRow}
-use Rattle.page.specs.Bytes.{headerByte, flagsByte, offsetByte, rowByteAt, entryByte, entriesByte, pageByte, oneRowByte}
+use Rattle.page.specs.Bytes.{headerByte, flagsByte, offsetByte, rowByteAt, entryByte, entriesByte, readByte, namedByte}
 use Rattle.intake.specs.Length.{allowedLength}
 use Rattle.bitmap.specs.Spare.{spareBit}
 use Rattle.bitmap.specs.Bit.{bit}
@@ -49,12 +49,12 @@ pub examples-hold : ExamplesHold examples
 unfolding le16 le24 le32 anyFrom isMember within linkable headSize wholeSize isInside holdsCodes isCode firstZero codeLength
     plainText textIn readText codeByte textByte tableOf artistLayout checkTexts checkRow
     slotByte subtypeByte rowByte headerAgrees rowless entries num-rows indexSize flagsAt offsetAt present rowStart presentFrom
-    indexFits countAgrees indexGood beforeIndex rowStarts checkRows readPage headerByte flagsByte offsetByte rowByteAt entryByte entriesByte pageByte
+    indexFits countAgrees indexGood beforeIndex rowStarts checkRows readPage headerByte flagsByte offsetByte rowByteAt entryByte entriesByte readByte
     allowedLength spareBit bit checkLengths checkCall blockAt allowedPage allowedTables hasType typeTwice tablesHold headerHolds
     pointersFrom kept pointerAmong chainIn tableChain directoryByte blockMissing pageHeld pagePart pageNext
     comesTo goesOn reads readsFrom askedTable tableReads walkedByte firstBlockByte tableByte relevant
     inPresentRow inAbsentRow absentRow unnamedByte unreadByte unreadFor
-    pageRow isRow oneRowByte runBefore rank elementReads elementByte listByte
+    pageRow isRow namedByte runBefore rank elementReads elementByte listByte
 examples-hold = refl
 
 pub count-answers : CountAnswers

@@ -17,7 +17,7 @@ use Rattle.table.specs.declared.Table.{Table}
 use Rattle.page.specs.Header.{entries}
 use Rattle.page.specs.Index.{indexSize, present, rowStart}
 use Rattle.page.specs.Read.{beforeIndex}
-use Rattle.page.specs.Bytes.{headerByte, offsetByte, rowByteAt, entryByte, entriesByte, pageByte}
+use Rattle.page.specs.Bytes.{headerByte, offsetByte, rowByteAt, entryByte, entriesByte, readByte, pageByte}
 use Rattle.intake.specs.Memory.{Memory, blockAt}
 use Rattle.directory.specs.Bytes.{directoryByte}
 use Rattle.table_walk.specs.Walk.{pageSize}
@@ -54,7 +54,7 @@ module _ (table : Table) (page : Bytes) (i : ℕ) (rows : heapStart ≤ i) (inde
       simp (not-offset page i index j h, row, and-false)
 
   not-page : (number : ℕ) → inPresentRow table page i ≡ false → pageByte number table page i ≡ false
-  unfolding pageByte entriesByte
+  unfolding readByte entriesByte
   not-page number e =
       let none = any-none (λ (j : ℕ). entryByte table page j i) (entries page) 0 (λ j l h. not-entry e j (omega arith)) in
       simp (not-header, not-flags page i index, none, and-false)

@@ -18,7 +18,7 @@ use Rattle.table.specs.declared.Table.{Table}
 use Rattle.page.specs.Header.{entries}
 use Rattle.page.specs.Index.{indexSize, flagsAt, offsetAt, rowStart}
 use Rattle.page.specs.Read.{indexFits, beforeIndex}
-use Rattle.page.specs.Bytes.{headerByte, flagsByte, offsetByte, rowByteAt, entryByte, entriesByte, pageByte}
+use Rattle.page.specs.Bytes.{headerByte, flagsByte, offsetByte, rowByteAt, entryByte, entriesByte, readByte, pageByte}
 use Rattle.page.proofs.EntriesInside.{entry-room}
 use Rattle.depend.specs.Unread.{unnamedByte}
 
@@ -50,7 +50,7 @@ module _ (table : Table) (page : Bytes) (i : ℕ) (low : i < heapStart) where
         any-none (λ (j : ℕ). entryByte table page j i) (entries page) 0 (λ j l h. simp (not-offset page i before j (omega arith), not-row j, and-false))
 
   low-irrelevant : (number : ℕ) → headerByte i ≡ false → pageByte number table page i ≡ false
-  unfolding pageByte
+  unfolding readByte
   low-irrelevant number h =
       on (indexFits page) (λ f. simp (h, not-flags page i (before f), not-entries f, and-false)) (λ f. simp (h, f, and-false))
 

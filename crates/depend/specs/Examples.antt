@@ -1,11 +1,12 @@
--- Rules 7.2 to 7.8, 7.10, 7.12, 7.14 and 7.15 by example: a file of four pages, of which page 3 is off the chain, four that differ a little,
+-- Rules 7.2 to 7.8, 7.10, 7.12, 7.14 and 7.15 by example: a file of four pages, of which page 3 is off the chain, five that differ a little,
 -- and one of a track with a recording code.
 -- An example holds when the definitions say of a byte what is said here.
 use mathlib.Core.Path.{_≡_}
 use mathlib.Core.Bool.{Bool, true, false}
 use mathlib.Core.List.{List, [], _∷_, map}
 use Prim.Native.Nat.{ℕ, zero, suc, _+_}
-use lib.ListN.{set, replicate}
+use lib.ListN.{replicate}
+use lib.Seq.{sets}
 use Rattle.lists.specs.Alias.{Bytes, Places}
 use Rattle.refusal.specs.Fault.{fault}
 use Rattle.refusal.specs.Answer.{Answer, given, refused}
@@ -20,23 +21,18 @@ use Rattle.depend.specs.Bytes.{relevant}
 use Rattle.depend.specs.Unread.{unreadFor}
 use Rattle.depend.specs.ListBytes.{recordFrom, readRelevant}
 
--- an image with these bytes from a place on
-abbrev pub put : (image : Bytes) (at : ℕ) (bytes : Bytes) → Bytes
-put image at [] = image
-put image at (b ∷ bytes) = put (set image at b) (at + 1) bytes
-
 -- len_page 512, one pointer: type 1, first 1, last 2
 abbrev pub header : Bytes → Bytes
-header image = put (put (put image 0x04 (0x00 ∷ 0x02 ∷ [])) 0x08 (1 ∷ [])) 0x1c (1 ∷ 0 ∷ 0 ∷ 0 ∷ 0 ∷ 0 ∷ 0 ∷ 0 ∷ 1 ∷ 0 ∷ 0 ∷ 0 ∷ 2 ∷ [])
+header image = sets (sets (sets image 0x04 (0x00 ∷ 0x02 ∷ [])) 0x08 (1 ∷ [])) 0x1c (1 ∷ 0 ∷ 0 ∷ 0 ∷ 0 ∷ 0 ∷ 0 ∷ 0 ∷ 1 ∷ 0 ∷ 0 ∷ 0 ∷ 2 ∷ [])
 
 -- page 1 has flags `64`, next 2
 abbrev pub pageOne : Bytes → Bytes
-pageOne image = put (put (put (put image 516 (1 ∷ [])) 520 (1 ∷ [])) 524 (2 ∷ [])) 539 (0x64 ∷ [])
+pageOne image = sets (sets (sets (sets image 516 (1 ∷ [])) 520 (1 ∷ [])) 524 (2 ∷ [])) 539 (0x64 ∷ [])
 
 -- page 2 counts two entries and one present row and has flags `24`; entry 1 alone is present, with offset 16: there stand id 7 and a short string of four characters
 abbrev pub pageTwo : Bytes → Bytes
 pageTwo image =
-    put (put (put (put (put (put image 1028 (2 ∷ [])) 1032 (1 ∷ [])) 1048 (2 ∷ 0x20 ∷ 0 ∷ 0x24 ∷ []))
+    sets (sets (sets (sets (sets (sets image 1028 (2 ∷ [])) 1032 (1 ∷ [])) 1048 (2 ∷ 0x20 ∷ 0 ∷ 0x24 ∷ []))
     1080 (7 ∷ 0 ∷ 0 ∷ 0 ∷ 0x0b ∷ 70 ∷ 117 ∷ 110 ∷ 107 ∷ [])) 1528 (16 ∷ [])) 1532 (2 ∷ [])
 
 abbrev pub genres : Bytes
@@ -44,19 +40,23 @@ genres = pageTwo (pageOne (header (replicate 2048 0)))
 
 -- both rows of page 2 are present
 abbrev pub bothRows : Bytes
-bothRows = put (put genres 1532 (3 ∷ [])) 1049 (0x40 ∷ [])
+bothRows = sets (sets genres 1532 (3 ∷ [])) 1049 (0x40 ∷ [])
 
 -- page 2 counts two present rows and has one
 abbrev pub miscounted : Bytes
-miscounted = put genres 1049 (0x40 ∷ [])
+miscounted = sets genres 1049 (0x40 ∷ [])
+
+-- page 2 counts 209 entries, whose index does not fit it
+abbrev pub tooLong : Bytes
+tooLong = sets genres 1048 (209 ∷ [])
 
 -- the present row starts three bytes before the row index
 abbrev pub unfit : Bytes
-unfit = put genres 1528 (0xcd ∷ 0x01 ∷ [])
+unfit = sets genres 1528 (0xcd ∷ 0x01 ∷ [])
 
 -- the same pages as table 2: the present row has subtype 7, which there is not
 abbrev pub artists : Bytes
-artists = put (put (put genres 0x1c (2 ∷ [])) 520 (2 ∷ [])) 1032 (2 ∷ [])
+artists = sets (sets (sets genres 0x1c (2 ∷ [])) 520 (2 ∷ [])) 1032 (2 ∷ [])
 
 -- so many offsets of an empty string, which is the byte `03` of the code below
 abbrev pub empties : ℕ → Bytes
@@ -66,21 +66,21 @@ empties (suc n) = 0x8c ∷ 0 ∷ empties n
 -- table 0 has page 1 alone, with one track at 552; its slot 0 names a recording code of ten bytes at 688, of which two stand behind the zero byte
 abbrev pub tracks : Bytes
 tracks =
-    put (put (put (put (put (put (put (put (header (replicate 2048 0)) 0x1c (0 ∷ [])) 0x28 (1 ∷ []))
+    sets (sets (sets (sets (sets (sets (sets (sets (header (replicate 2048 0)) 0x1c (0 ∷ [])) 0x28 (1 ∷ []))
     516 (1 ∷ [])) 536 (1 ∷ 0x20 ∷ 0 ∷ 0x24 ∷ [])) 646 (0x88 ∷ 0 ∷ [])) 648 (empties 20))
     688 (0x90 ∷ 0x0a ∷ 0 ∷ 0 ∷ 0x03 ∷ 71 ∷ 66 ∷ 0 ∷ 85 ∷ 83 ∷ [])) 1020 (1 ∷ [])
 
 -- the code ends past the index
 abbrev pub pastIndex : Bytes
-pastIndex = put tracks 690 (0x02 ∷ [])
+pastIndex = sets tracks 690 (0x02 ∷ [])
 
 -- slot 1 names the string too, of an odd size, so the row is refused
 abbrev pub oddShared : Bytes
-oddShared = put (put tracks 648 (0x88 ∷ [])) 689 (0x0b ∷ [])
+oddShared = sets (sets tracks 648 (0x88 ∷ [])) 689 (0x0b ∷ [])
 
 -- slot 1 names an odd string of the same bytes, and slot 0 does not
 abbrev pub oddElsewhere : Bytes
-oddElsewhere = put oddShared 646 (0x8c ∷ [])
+oddElsewhere = sets oddShared 646 (0x8c ∷ [])
 
 -- slot 0 of the track
 abbrev pub code : Question
@@ -122,11 +122,17 @@ abbrev pub read : ℕ → Example
 read i = record { found = unreadFor 2048 (memory genres (all ∷ [])) (allRows 1 []) i; said = false }
 
 -- for the record of element 0 of this list of table 1 byte i is relevant, or it is not; every block is held
+abbrev pub yesAtIn : (image : Bytes) (list : Places) (i : ℕ) → Example
+yesAtIn image list i = record { found = readRelevant 2048 (memory image (all ∷ [])) (recordFrom 1 list 0) i; said = true }
+
+abbrev pub noAtIn : (image : Bytes) (list : Places) (i : ℕ) → Example
+noAtIn image list i = record { found = readRelevant 2048 (memory image (all ∷ [])) (recordFrom 1 list 0) i; said = false }
+
 abbrev pub yesAt : (list : Places) (i : ℕ) → Example
-yesAt list i = record { found = readRelevant 2048 (memory genres (all ∷ [])) (recordFrom 1 list 0) i; said = true }
+yesAt list i = yesAtIn genres list i
 
 abbrev pub noAt : (list : Places) (i : ℕ) → Example
-noAt list i = record { found = readRelevant 2048 (memory genres (all ∷ [])) (recordFrom 1 list 0) i; said = false }
+noAt list i = noAtIn genres list i
 
 -- the same of the second of both rows, read from the list of both
 abbrev pub yesSecond : (i : ℕ) → Example
@@ -155,6 +161,8 @@ examples =
     yesIn unfit (allRows 1 []) 1529 ∷ noIn unfit (allRows 1 []) 1525 ∷ noIn unfit (allRows 1 []) 1527 ∷
     -- flags whose ones are not as many as the page counts: the flags, and neither an offset nor a row
     yesIn miscounted (allRows 1 []) 1532 ∷ noIn miscounted (allRows 1 []) 1528 ∷ noIn miscounted (allRows 1 []) 1080 ∷
+    -- an index that does not fit: the row counts, and no flag
+    yesIn tooLong (allRows 1 []) 1048 ∷ noIn tooLong (allRows 1 []) 1532 ∷
     -- an artist row of unknown subtype: its subtype, and nothing behind it
     yesIn artists (allRows 2 []) 1080 ∷ yesIn artists (allRows 2 []) 1081 ∷ noIn artists (allRows 2 []) 1082 ∷ noIn artists (allRows 2 []) 1089 ∷
     -- nothing for a table or a slot that there is not
@@ -164,6 +172,8 @@ examples =
     -- read from a list: block 0, of page 2 its header and row index and the row that is named, and nothing of page 1
     yesAt (1080 ∷ []) 0x04 ∷ yesAt (1080 ∷ []) 1028 ∷ yesAt (1080 ∷ []) 1528 ∷ yesAt (1080 ∷ []) 1532 ∷ yesAt (1080 ∷ []) 1084 ∷
     noAt (1080 ∷ []) 1058 ∷ noAt (1080 ∷ []) 1079 ∷ noAt (1080 ∷ []) 1534 ∷ noAt (1080 ∷ []) 516 ∷
+    -- the same of a page that counts its rows wrong, and of one whose index does not fit
+    yesAtIn miscounted (1080 ∷ []) 1532 ∷ noAtIn miscounted (1080 ∷ []) 1528 ∷ noAtIn miscounted (1080 ∷ []) 1080 ∷ noAtIn tooLong (1080 ∷ []) 1532 ∷
     -- the place of the absent row: no byte of any row; a place on page 0, and no element: block 0 alone
     yesAt (1064 ∷ []) 1532 ∷ noAt (1064 ∷ []) 1064 ∷ noAt (1064 ∷ []) 1080 ∷ noAt (40 ∷ []) 516 ∷ yesAt [] 0x1c ∷ noAt [] 1028 ∷
     -- of two present rows the one that is named is relevant and the other is not, but both their offsets are
@@ -180,7 +190,7 @@ ExamplesHold list = map (λ (e : Example). e .found) list ≡ map (λ (e : Examp
 
 -- what all rows of table 1 answer, where page 2 has other bytes from byte i of its header on
 abbrev pub rowsWith : (i : ℕ) (bytes : Bytes) → Walk ℕ
-rowsWith i bytes = askRows 2048 (memory (put genres (1024 + i) bytes) (all ∷ [])) 1 (0 ∷ []) .answer
+rowsWith i bytes = askRows 2048 (memory (sets genres (1024 + i) bytes) (all ∷ [])) 1 (0 ∷ []) .answer
 
 -- Rules 4.11, 5.33: bytes `22` and `23` change no answer; row counts that are not those of the flags do
 pub record CountAnswers : Type 0 where
@@ -192,7 +202,7 @@ pub record CountAnswers : Type 0 where
 
 -- what slot 0 of the track answers, where byte i has another value
 abbrev pub codeWith : (i byte : ℕ) → Answer (Found TextPlace)
-codeWith i byte = askText 2048 (memory (put tracks i (byte ∷ [])) (all ∷ [])) 0 0 0
+codeWith i byte = askText 2048 (memory (sets tracks i (byte ∷ [])) (all ∷ [])) 0 0 0
 
 -- Rule 7.8: no byte behind a code's zero byte changes the answer; another byte in place of the zero byte does, and in place of `03`
 pub record CodeAnswers : Type 0 where

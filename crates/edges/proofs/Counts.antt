@@ -26,7 +26,7 @@ unfolding le16 le24 le32 headSize wholeSize isInside isCode plainText textIn rea
     headerAgrees rowless entries num-rows indexSize flagsAt offsetAt present rowStart presentFrom
     indexFits countAgrees indexGood beforeIndex rowStarts checkRows readPage
 counts-hold =
-    (refl, (refl, (refl, (refl, (refl, (refl, (refl, (refl, (refl, (refl, (refl, (refl, (refl, (refl, (refl, (refl, (refl, (refl, (refl, tt)))))))))))))))))))
+    (refl, (refl, (refl, (refl, (refl, (refl, (refl, (refl, (refl, (refl, (refl, (refl, (refl, (refl, (refl, (refl, (refl, (refl, (refl, (refl, tt))))))))))))))))))))
 
 few : (page : Bytes) → ((i : ℕ) → byteAt page i < 256) → num-rows page < 2048
 unfolding num-rows

@@ -21,16 +21,20 @@ countsIn bytes = let page = sets (replicate 40 0) 0x18 bytes in counts (entries 
 
 -- page 1 of a table of genres, of 512 bytes, with these bytes at `18` and these flags of groups 0 and 1; each entry's row stands at `28` and has an
 -- empty name
-abbrev pub countedPage : (bytes flags next : Bytes) → Bytes
-countedPage bytes flags next = sets (sets (sets (sets (genrePage 0) 0x18 bytes) 0x2c (0x03 ∷ [])) 508 flags) 472 next
+abbrev pub countedPage : (bytes first second : Bytes) → Bytes
+countedPage bytes first second = sets (sets (sets (sets (genrePage 0) 0x18 bytes) 0x2c (0x03 ∷ [])) 508 first) 472 second
 
-abbrev pub full : Bytes
-full = 0xff ∷ 0xff ∷ []
+-- flags of a group: all set, the second alone, none
+abbrev pub allSet : Bytes
+allSet = 0xff ∷ 0xff ∷ []
 
-abbrev pub none : Bytes
-none = 0 ∷ 0 ∷ []
+abbrev pub oneSet : Bytes
+oneSet = 0x02 ∷ 0 ∷ []
 
--- the same, where the name is malformed
+abbrev pub noneSet : Bytes
+noneSet = 0 ∷ 0 ∷ []
+
+-- such a page with a malformed name
 abbrev pub badName : Bytes → Bytes
 badName page = sets page 0x2c (0x01 ∷ [])
 
@@ -44,23 +48,24 @@ countCases =
     -- page_flags behind them is no part of them
     (countsIn (0x02 ∷ 0x20 ∷ 0x00 ∷ 0x24 ∷ []) is counts 2 1) ∷
     -- one of two entries present, counted as one, as two and as none
-    (pageReads (countedPage (0x02 ∷ 0x20 ∷ 0x00 ∷ []) (0x02 ∷ 0 ∷ []) none) is rows 1) ∷
-    (pageReads (countedPage (0x02 ∷ 0x40 ∷ 0x00 ∷ []) (0x02 ∷ 0 ∷ []) none) is refusal 13) ∷
-    (pageReads (countedPage (0x02 ∷ 0x00 ∷ 0x00 ∷ []) (0x02 ∷ 0 ∷ []) none) is refusal 13) ∷
+    (pageReads (countedPage (0x02 ∷ 0x20 ∷ 0x00 ∷ []) oneSet noneSet) is rows 1) ∷
+    (pageReads (countedPage (0x02 ∷ 0x40 ∷ 0x00 ∷ []) oneSet noneSet) is refusal 13) ∷
+    (pageReads (countedPage (0x02 ∷ 0x00 ∷ 0x00 ∷ []) oneSet noneSet) is refusal 13) ∷
     -- 15, 16 and 17 entries, all present and counted; flags past them are no entries'
-    (pageReads (countedPage (0x0f ∷ 0xe0 ∷ 0x01 ∷ []) full none) is rows 15) ∷
-    (pageReads (countedPage (0x10 ∷ 0x00 ∷ 0x02 ∷ []) full full) is rows 16) ∷
-    (pageReads (countedPage (0x11 ∷ 0x20 ∷ 0x02 ∷ []) full full) is rows 17) ∷
+    (pageReads (countedPage (0x0f ∷ 0xe0 ∷ 0x01 ∷ []) allSet noneSet) is rows 15) ∷
+    (pageReads (countedPage (0x10 ∷ 0x00 ∷ 0x02 ∷ []) allSet allSet) is rows 16) ∷
+    (pageReads (countedPage (0x11 ∷ 0x20 ∷ 0x02 ∷ []) allSet allSet) is rows 17) ∷
     -- 17 entries, counted as 16, and as the 32 ones of their groups
-    (pageReads (countedPage (0x11 ∷ 0x00 ∷ 0x02 ∷ []) full full) is refusal 13) ∷
-    (pageReads (countedPage (0x11 ∷ 0x00 ∷ 0x04 ∷ []) full full) is refusal 13) ∷
-    -- 8,191 entries do not fit the page, whatever it counts
-    (pageReads (countedPage (0xff ∷ 0x1f ∷ 0x00 ∷ []) none none) is refusal 13) ∷
+    (pageReads (countedPage (0x11 ∷ 0x00 ∷ 0x02 ∷ []) allSet allSet) is refusal 13) ∷
+    (pageReads (countedPage (0x11 ∷ 0x00 ∷ 0x04 ∷ []) allSet allSet) is refusal 13) ∷
+    -- 8,191 entries do not fit the page, counted as none and as 2,047 rows
+    (pageReads (countedPage (0xff ∷ 0x1f ∷ 0x00 ∷ []) noneSet noneSet) is refusal 13) ∷
+    (pageReads (countedPage (0xff ∷ 0xff ∷ 0xff ∷ []) noneSet noneSet) is refusal 13) ∷
     -- a page with flag `40` is not counted
-    (pageReads (countedPage (0x02 ∷ 0x40 ∷ 0x00 ∷ 0x64 ∷ []) (0x02 ∷ 0 ∷ []) none) is rows 0) ∷
+    (pageReads (countedPage (0x02 ∷ 0x40 ∷ 0x00 ∷ 0x64 ∷ []) oneSet noneSet) is rows 0) ∷
     -- a malformed name is 15 where the count is right, and not looked at where it is not
-    (pageReads (badName (countedPage (0x02 ∷ 0x20 ∷ 0x00 ∷ []) (0x02 ∷ 0 ∷ []) none)) is refusal 15) ∷
-    (pageReads (badName (countedPage (0x02 ∷ 0x40 ∷ 0x00 ∷ []) (0x02 ∷ 0 ∷ []) none)) is refusal 13) ∷ []
+    (pageReads (badName (countedPage (0x02 ∷ 0x20 ∷ 0x00 ∷ []) oneSet noneSet)) is refusal 15) ∷
+    (pageReads (badName (countedPage (0x02 ∷ 0x40 ∷ 0x00 ∷ []) oneSet noneSet)) is refusal 13) ∷ []
 
 -- Rule 9.18
 pub record EveryCount : Type 0 where

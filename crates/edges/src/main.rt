@@ -118,7 +118,7 @@ fn counted_pages(page: &mut [u8]) {
     say_page(page, 0x4_0011);
 }
 
-// The same where the rows' names are malformed.
+// 17 entries where the rows' names are malformed, counted right and as one less.
 fn bad_names(page: &mut [u8]) {
     set_rows(page, 0x01);
     say_page(page, 0x2_2011);

@@ -1,9 +1,10 @@
 -- Rules 7.3 to 7.7: two pages of one length that agree on the relevant bytes are read alike.
 --     read-agree                    the answer
+--     next-same                     the next page
 --     starts-same, parts-same       the rows' starts, and the relevant bytes of each row
 --     row-read-agree, one-part      the answer where one row is read (rule 7.14), and the relevant bytes of that row
 use mathlib.Core.Path.{_≡_, refl, ap}
-use mathlib.Core.Bool.{true, false, not, _&&_, or-true, false≢true}
+use mathlib.Core.Bool.{Bool, true, false, not, _&&_, or-true, false≢true}
 use mathlib.Core.List.{[], _∷_}
 use Prim.Native.Nat.{ℕ, zero, suc, _+_, _-_, _<_, _≤_}
 use native.Mathlib.Omega.{arith}
@@ -14,12 +15,12 @@ use Rattle.number.specs.Number.{byteAt, le24, le32}
 use Rattle.number.specs.Agree.{Agree, within}
 use Rattle.table.specs.declared.Table.{Table}
 use Rattle.row.specs.Bytes.{rowByte}
-use Rattle.page.specs.Header.{headerAgrees, rowless, entries, num-rows}
+use Rattle.page.specs.Header.{next-page, headerAgrees, rowless, entries, num-rows}
 use Rattle.page.specs.Index.{indexSize, flagsAt, offsetAt, present, rowStart, presentFrom}
 use Rattle.page.specs.Read.{indexFits, countAgrees, indexGood, beforeIndex, rowStarts, checkRows, readPage}
 use Rattle.page.specs.Row.{pageRow}
 use Rattle.page.specs.OneRow.{isRow, readRow}
-use Rattle.page.specs.Bytes.{headerByte, flagsByte, offsetByte, rowByteAt, entryByte, entriesByte, pageByte, oneRowByte}
+use Rattle.page.specs.Bytes.{headerByte, flagsByte, offsetByte, rowByteAt, entryByte, entriesByte, readByte, pageByte, namedByte, oneRowByte}
 use Rattle.lists.specs.Alias.{Bytes, Places}
 use Rattle.lists.specs.Any.{anyFrom}
 use Rattle.lists.proofs.Each.{Each}
@@ -39,7 +40,7 @@ module _ {s t : Bytes} (a : Agree headerByte s t) where
   unfolding headerByte
   type-agree = le32-agree 0x08 (agree-less (λ i e. simp (e, or-true)) a)
 
-  pub next-page-agree : le32 s 0x0c ≡ le32 t 0x0c
+  next-page-agree : le32 s 0x0c ≡ le32 t 0x0c
   unfolding headerByte
   next-page-agree = le32-agree 0x0c (agree-less (λ i e. simp (e, or-true)) a)
 
@@ -171,29 +172,37 @@ unfolding checkRows
 rows-check table rows other [] e = refl
 rows-check table rows other (start ∷ starts) e = rw (check-agree table (e .0), rows-check table rows other starts (e .1))
 
--- a page whose header agrees
-module _ (number : ℕ) (table : Table) {s t : Bytes} (a : Agree (pageByte number table s) s t) where
+-- what two pages share that agree on the relevant bytes: of a good index also those that more names
+record ReadAgree (number : ℕ) (table : Table) (s t : Bytes) (more : ℕ → Bool) : Type 0 where
   headers : Agree headerByte s t
-  unfolding pageByte
-  headers = agree-less (λ i e. or-left _ e) a
+  flags : headerAgrees number table s ≡ true → rowless s ≡ false → indexFits s ≡ true → Agree (flagsByte s) s t
+  rest : headerAgrees number table s ≡ true → rowless s ≡ false → indexGood s ≡ true → Agree more s t
+
+byte-parts : (number : ℕ) (table : Table) {s t : Bytes} (more : ℕ → Bool) → Agree (readByte number table s more) s t → ReadAgree number table s t more
+unfolding readByte
+byte-parts number table {s} more a =
+    record {
+      headers = agree-less (λ i e. or-left _ e) a;
+      flags = λ h r f. agree-less (λ i e. or-right (headerByte i) (rw (h, r, f) (or-left _ e))) a;
+      rest =
+          λ h r g. let good = good-parts s g in
+          agree-less (λ i e. or-right (headerByte i) (rw (h, r, good .0, good .1) (or-right (flagsByte s i) e))) a;
+    }
+
+-- a page that is read whole
+module _ (number : ℕ) (table : Table) {s t : Bytes} (a : Agree (pageByte number table s) s t) where
+  parts : ReadAgree number table s t (entriesByte table s)
+  parts = byte-parts number table (entriesByte table s) a
 
   module _ (h : headerAgrees number table s ≡ true) where
-    flag-bytes : rowless s ≡ false → indexFits s ≡ true → Agree (flagsByte s) s t
-    unfolding pageByte
-    flag-bytes r f = agree-less (λ i e. or-right (headerByte i) (rw (h, r, f) (or-left _ e))) a
-
     entry-bytes : rowless s ≡ false → indexGood s ≡ true → (j : ℕ) → j < entries s → Agree (entryByte table s j) s t
-    unfolding pageByte entriesByte
+    unfolding entriesByte
     entry-bytes r g j l =
-        let good = good-parts s g in
-        agree-less
-        (λ i e. or-right (headerByte i)
-        (rw (h, r, good .0, good .1)
-        (or-right (flagsByte s i) (any-at (λ (k : ℕ). entryByte table s k i) (entries s) 0 j (omega arith) (omega arith) e)))) a
+        agree-less (λ i e. any-at (λ (k : ℕ). entryByte table s k i) (entries s) 0 j (omega arith) (omega arith) e) (parts .rest h r g)
 
     pub starts-same : rowStarts s ≡ rowStarts t
     unfolding entryByte
-    starts-same = whole-starts headers flag-bytes (λ r g j l. agree-less (λ i e. or-left _ e) (entry-bytes r g j l))
+    starts-same = whole-starts (parts .headers) (parts .flags h) (λ r g j l. agree-less (λ i e. or-left _ e) (entry-bytes r g j l))
 
     pub parts-same : Each (RowAgree table (beforeIndex s) (beforeIndex t)) (rowStarts s)
     unfolding rowStarts
@@ -201,63 +210,54 @@ module _ (number : ℕ) (table : Table) {s t : Bytes} (a : Agree (pageByte numbe
         let All = Each (RowAgree table (beforeIndex s) (beforeIndex t)) in
         cond-holds All (rowless s) (λ _. tt)
         (λ r. cond-holds All (indexGood s)
-        (λ g. rw (before s, before-agree headers)
+        (λ g. rw (before s, before-agree (parts .headers))
         (rows-agree table (entries s) (entry-bytes r g) (length s - indexSize (entries s)) (before s) (entries s) 0 (omega arith))) (λ _. tt))
 
     checks-same : checkRows table (beforeIndex s) (rowStarts s) ≡ checkRows table (beforeIndex t) (rowStarts s)
     checks-same = rows-check table (beforeIndex s) (beforeIndex t) (rowStarts s) parts-same
 
+  pub next-same : next-page s ≡ next-page t
+  next-same = next-page-agree (parts .headers)
+
   pub read-agree : readPage number table s ≡ readPage number table t
   unfolding readPage
   read-agree =
-      rw (← header-agree headers number table, ← rowless-agree headers)
+      rw (← header-agree (parts .headers) number table, ← rowless-agree (parts .headers))
       (cond-agree (not (headerAgrees number table s)) (λ _. refl)
       (λ e. let h = not-false (headerAgrees number table s) e in
-      cond-agree (rowless s) (λ _. refl) (λ r. rw (checks-same h, starts-same h, good-agree headers (flag-bytes h) r, a .long))))
+      cond-agree (rowless s) (λ _. refl) (λ r. rw (checks-same h, starts-same h, good-agree (parts .headers) (parts .flags h) r, a .long))))
 
 -- a page of which one row is read
 module _ (number : ℕ) (table : Table) (start rank : ℕ) {s t : Bytes} (a : Agree (oneRowByte number table s start rank) s t) where
-  one-headers : Agree headerByte s t
-  unfolding oneRowByte
-  one-headers = agree-less (λ i e. or-left _ e) a
+  one-parts : ReadAgree number table s t (namedByte table s start rank)
+  one-parts = byte-parts number table (namedByte table s start rank) a
 
   module _ (h : headerAgrees number table s ≡ true) where
-    one-flags : rowless s ≡ false → indexFits s ≡ true → Agree (flagsByte s) s t
-    unfolding oneRowByte
-    one-flags r f = agree-less (λ i e. or-right (headerByte i) (rw (h, r, f) (or-left _ e))) a
-
     one-offsets : rowless s ≡ false → indexGood s ≡ true → (j : ℕ) → j < entries s → Agree (offsetByte s j) s t
-    unfolding oneRowByte
+    unfolding namedByte
     one-offsets r g j l =
-        let good = good-parts s g in
-        agree-less
-        (λ i e. or-right (headerByte i)
-        (rw (h, r, good .0, good .1)
-        (or-right (flagsByte s i) (or-left _ (any-at (λ (k : ℕ). offsetByte s k i) (entries s) 0 j (omega arith) (omega arith) e))))) a
+        agree-less (λ i e. or-left _ (any-at (λ (k : ℕ). offsetByte s k i) (entries s) 0 j (omega arith) (omega arith) e)) (one-parts .rest h r g)
 
     is-row-agree : isRow s start rank ≡ isRow t start rank
     unfolding isRow pageRow
-    is-row-agree = rw (whole-starts one-headers one-flags one-offsets)
+    is-row-agree = rw (whole-starts (one-parts .headers) (one-parts .flags h) one-offsets)
 
     -- the row's part
     pub one-part : rowless s ≡ false → indexGood s ≡ true → isRow s start rank ≡ true → RowAgree table (beforeIndex s) (beforeIndex t) start
-    unfolding oneRowByte
+    unfolding namedByte
     one-part r g w =
-        let good = good-parts s g in
-        rw (before s, before-agree one-headers)
+        rw (before s, before-agree (one-parts .headers))
         (part-agree table start (length s - indexSize (entries s)) (before s)
-        (agree-less
-        (λ i e. or-right (headerByte i)
-        (rw (h, r, good .0, good .1, w) (or-right (flagsByte s i) (or-right (anyFrom (λ (k : ℕ). offsetByte s k i) (entries s) 0) e)))) a))
+        (agree-less (λ i e. or-right (anyFrom (λ (k : ℕ). offsetByte s k i) (entries s) 0) (rw (w, e))) (one-parts .rest h r g)))
 
   pub row-read-agree : readRow number table s start rank ≡ readRow number table t start rank
   unfolding readRow
   row-read-agree =
-      rw (← header-agree one-headers number table, ← rowless-agree one-headers)
+      rw (← header-agree (one-parts .headers) number table, ← rowless-agree (one-parts .headers))
       (cond-agree (not (headerAgrees number table s)) (λ _. refl)
       (λ e. let h = not-false (headerAgrees number table s) e in
       cond-agree (rowless s) (λ _. refl)
-      (λ r. rw (← good-agree one-headers (one-flags h) r)
+      (λ r. rw (← good-agree (one-parts .headers) (one-parts .flags h) r)
       (cond-agree (not (indexGood s)) (λ _. refl)
       (λ b. let g = not-false (indexGood s) b in
       rw (← is-row-agree h)

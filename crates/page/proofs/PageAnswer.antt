@@ -1,6 +1,6 @@
 -- Rules 4.15, 5.10, 5.33: what the answer of `readPage` says of the page.
 --     page-read        read without a fault, its header agrees, its rows are good, and what is found are their places
---     page-counted     read without a fault, it has as many rows as it counts
+--     page-counted     read without a fault and without flag `40`, it has as many rows as it counts
 --     page-refused     its refusals are 12 to 15 and carry the page
 --     rows-good        where the rows of a page are good, each of them is
 use mathlib.Core.Path.{_≡_, refl, sym, ap, subst, _∙_}

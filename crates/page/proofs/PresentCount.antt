@@ -87,18 +87,17 @@ module _ (page : Bytes) (n i : ℕ) (first : i % 16 ≡ 0) where
 pub record Counting (page : Bytes) (n i count : ℕ) : Type 0 where
   pub first : i % 16 ≡ 0
   pub entry : i < n + 16
-  pub few : length (presentFrom page n 0) ≤ n
   pub rest : length (presentFrom page n 0) ≡ count + presentLeft page n i
 
 pub begin : (page : Bytes) (n : ℕ) → Counting page n 0 0
-begin page n = record { first = refl; entry = omega arith; few = few-present page n 0; rest = rw (sub-zero n) (omega arith) }
+begin page n = record { first = refl; entry = omega arith; rest = rw (sub-zero n) (omega arith) }
 
 module _ {page : Bytes} {n i count : ℕ} (t : Counting page n i count) where
   pub next : {group : ℕ} → i < n → group ≡ groupOnes page (n - i) i → Counting page n (i + 16) (count + group)
-  next h e = record { first = omega (arith, t .first); entry = omega arith; few = t .few; rest = omega (arith, t .rest, group-step page n i (t .first) h) }
+  next h e = record { first = omega (arith, t .first); entry = omega arith; rest = omega (arith, t .rest, group-step page n i (t .first) h) }
 
   pub room : {group : ℕ} → i < n → group ≡ groupOnes page (n - i) i → count + group ≤ n
-  room h e = omega (arith, t .rest, t .few, group-step page n i (t .first) h)
+  room h e = omega (arith, t .rest, few-present page n 0, group-step page n i (t .first) h)
 
   pub end : n ≤ i → count ≡ length (presentFrom page n 0)
   end h = omega (arith, t .rest, ap length (entry-none page n i h))

@@ -39,15 +39,21 @@ unfoldable pub entriesByte : (table : Table) (page : Bytes) (i : ℕ) → Bool
 entriesByte table page i = anyFrom (λ (j : ℕ). entryByte table page j i) (entries page) 0
 
 -- Rule 7.4: nothing beyond the header where the header disagrees, flag `40` is set or the index does not fit, and beyond that
--- only flags where their ones are not as many as the page counts.
-unfoldable pub pageByte : (number : ℕ) (table : Table) (page : Bytes) (i : ℕ) → Bool
-pageByte number table page i =
+-- only flags where their ones are not as many as the page counts. Where the index is good, more says what else is relevant.
+unfoldable pub readByte : (number : ℕ) (table : Table) (page : Bytes) (more : ℕ → Bool) (i : ℕ) → Bool
+readByte number table page more i =
     headerByte i || (headerAgrees number table page && (not (rowless page) && (indexFits page
-    && (flagsByte page i || (countAgrees page && entriesByte table page i)))))
+    && (flagsByte page i || (countAgrees page && more i)))))
 
--- Rule 7.14: the same where one row is read, named by its start and its rank: the whole row index, and of the rows this one alone.
-unfoldable pub oneRowByte : (number : ℕ) (table : Table) (page : Bytes) (start rank i : ℕ) → Bool
-oneRowByte number table page start rank i =
-    headerByte i || (headerAgrees number table page && (not (rowless page) && (indexFits page
-    && (flagsByte page i || (countAgrees page
-    && (anyFrom (λ (j : ℕ). offsetByte page j i) (entries page) 0 || (isRow page start rank && rowByteAt table (beforeIndex page) start i)))))))
+-- Rules 7.3 to 7.7: a page that is read whole
+abbrev pub pageByte : (number : ℕ) (table : Table) (page : Bytes) (i : ℕ) → Bool
+pageByte number table page = readByte number table page (entriesByte table page)
+
+-- Rule 7.14: of a good index all present entries' offsets, and of the rows this one alone
+unfoldable pub namedByte : (table : Table) (page : Bytes) (start rank i : ℕ) → Bool
+namedByte table page start rank i =
+    anyFrom (λ (j : ℕ). offsetByte page j i) (entries page) 0 || (isRow page start rank && rowByteAt table (beforeIndex page) start i)
+
+-- Rule 7.14: a page of which one row is read, named by its start and its rank
+abbrev pub oneRowByte : (number : ℕ) (table : Table) (page : Bytes) (start rank i : ℕ) → Bool
+oneRowByte number table page start rank = readByte number table page (namedByte table page start rank)

@@ -1,4 +1,4 @@
--- Rules 4.11 to 4.14: the page header, in file order, under the published names.
+-- Rules 4.11 to 4.14: the page header, in file order, under the published names; those of the row counts are ours.
 use mathlib.Core.Bool.{Bool, _&&_}
 use Prim.Native.Nat.{ℕ, _/_, _%_, _^_}
 use lib.Dec.{eqb}

@@ -1,6 +1,6 @@
 //! Pages of tracks that make the search for the end of a recording code long.
 
-use sarvoltig_reference::model::{index_size, GROUP_SIZE, PAGE_HEADER};
+use sarvoltig_reference::model::{index_size, RowCounts, GROUP_SIZE, PAGE_HEADER};
 use std::ops::Range;
 
 /// The longest page that there is, and the length of a track's fixed part.
@@ -8,10 +8,6 @@ const LEN_PAGE: usize = 32_768;
 const FIXED: usize = 0x88;
 /// Four head bytes and the `03` before a code.
 const HEAD: usize = 5;
-
-/// The most entries and the most present rows that the header of a page can tell.
-const MOST_ENTRIES: usize = (1 << 13) - 1;
-const MOST_ROWS: usize = (1 << 11) - 1;
 
 /// A page of 32,768 bytes of which every present entry of the index names one row, at the start of the heap. Slot 0 of
 /// the row names a string of kind `90` that stands behind the fixed part and ends where the index begins: a recording
@@ -37,7 +33,7 @@ impl CodePage {
     /// ```
     pub fn longest_search() -> Self {
         Self {
-            entries: MOST_ROWS,
+            entries: RowCounts::MOST_ROWS,
             flags: 0xffff,
         }
     }
@@ -52,7 +48,7 @@ impl CodePage {
     /// ```
     pub fn most_entries() -> Self {
         Self {
-            entries: MOST_ENTRIES,
+            entries: RowCounts::MOST_ENTRIES,
             flags: 0x8888,
         }
     }
@@ -100,8 +96,8 @@ impl CodePage {
         for (at, number) in numbers {
             file[at..at + 2].copy_from_slice(&(number as u16).to_le_bytes());
         }
-        let row_counts = (self.entries | self.rows() << 13) as u32;
-        file[LEN_PAGE + 0x18..LEN_PAGE + 0x1b].copy_from_slice(&row_counts.to_le_bytes()[..3]);
+        let row_counts = RowCounts::bytes(self.entries, self.rows());
+        file[LEN_PAGE + 0x18..LEN_PAGE + 0x1b].copy_from_slice(&row_counts);
         self.put_rows(&mut file[LEN_PAGE..]);
         file
     }

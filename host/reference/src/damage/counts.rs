@@ -4,10 +4,6 @@ use super::target::Target;
 use crate::model::bytes::{u16_at, u24_at};
 use crate::model::{index_size, RowCounts, PAGE_HEADER};
 
-/// The greatest number of entries and of present rows that a header can tell.
-const MOST_ENTRIES: usize = (1 << 13) - 1;
-const MOST_PRESENT: usize = (1 << 11) - 1;
-
 /// Bits of the 24-bit number: the borders of bytes, the border of its two
 /// parts, and the highest.
 const BITS: [u64; 10] = [12, 12, 12, 13, 13, 13, 23, 23, 8, 16];
@@ -40,10 +36,8 @@ impl Target<'_> {
     }
 
     fn put_row_counts(&mut self, page: u32, num_row_offsets: usize, num_rows: usize) {
-        let entries = num_row_offsets & MOST_ENTRIES;
-        let row_counts = (entries | (num_rows & MOST_PRESENT) << 13) as u32;
         let at = self.layout().page_start(page) + 0x18;
-        self.put(at, &row_counts.to_le_bytes()[..3]);
+        self.put(at, &RowCounts::bytes(num_row_offsets, num_rows));
     }
 
     /// Another number of entries, with the number of present rows that they
@@ -55,7 +49,7 @@ impl Target<'_> {
         let old = self.layout().row_counts(page);
         let entries = usize::from(old.num_row_offsets);
         let too_many = self.too_many_entries();
-        let any = self.rng.next_u64() as usize & MOST_ENTRIES;
+        let any = self.rng.next_u64() as usize & RowCounts::MOST_ENTRIES;
         let counts = [
             entries + 1,
             entries + 1,
@@ -68,9 +62,9 @@ impl Target<'_> {
             any % too_many,
             any,
             too_many - 1,
-            MOST_ENTRIES,
+            RowCounts::MOST_ENTRIES,
         ];
-        let entries = self.rng.pick(&counts).min(MOST_ENTRIES);
+        let entries = self.rng.pick(&counts).min(RowCounts::MOST_ENTRIES);
         let present = match self.rng.chance(1, 2) {
             true => self.present_among(page, entries),
             false => usize::from(old.num_rows),
@@ -78,13 +72,13 @@ impl Target<'_> {
         self.put_row_counts(page, entries, present);
     }
 
-    /// An index that is too long by one entry, if a header can tell that, with
+    /// An index that is too long by one entry, if a header can hold that, with
     /// the number of present rows that it would have or another.
     pub fn index_too_long(&mut self) {
         let Some(page) = self.page_number() else {
             return;
         };
-        let entries = self.too_many_entries().min(MOST_ENTRIES);
+        let entries = self.too_many_entries().min(RowCounts::MOST_ENTRIES);
         let old = usize::from(self.layout().row_counts(page).num_rows);
         let would_be = self.present_among(page, entries);
         let present = self.rng.pick(&[would_be, would_be, would_be + 1, old, 0]);
@@ -112,7 +106,7 @@ impl Target<'_> {
             entries,
             whole_groups,
             0,
-            MOST_PRESENT,
+            RowCounts::MOST_ROWS,
             present ^ 0x400,
             any,
         ];

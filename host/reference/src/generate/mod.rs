@@ -1,5 +1,6 @@
 //! Exports, with a description of what a reader finds in them. They are valid
-//! but for pages that have another number of present rows than they tell.
+//! but for pages that have another number of present rows than their headers
+//! say.
 //!
 //! An export is written by putting only what the rules name, and often bytes
 //! `22` and `23` of a page, which no answer depends on; every other byte keeps

@@ -5,12 +5,8 @@ use std::mem;
 use super::content::Row;
 use super::encode::{encode, Chunk};
 use super::Options;
-use crate::model::{index_size, Table, GROUP_SIZE, PAGE_HEADER};
+use crate::model::{index_size, RowCounts, Table, GROUP_SIZE, PAGE_HEADER};
 use crate::rng::Rng;
-
-/// The most entries and the most present rows that a page header can tell.
-const MOST_ENTRIES: usize = (1 << 13) - 1;
-pub(super) const MOST_PRESENT: usize = (1 << 11) - 1;
 
 /// Numbers of entries that added ones lead to, beside those around groups.
 const ENTRIES_AIMED_AT: [usize; 9] = [255, 256, 257, 2047, 2048, 4095, 4096, 8190, 8191];
@@ -58,7 +54,7 @@ impl Page {
     /// A page that is sometimes closed before it is full.
     fn data(options: &Options, rng: &mut Rng) -> Self {
         let most_entries = match options.tidy || rng.chance(2, 3) {
-            true => options.most_entries.min(MOST_ENTRIES),
+            true => options.most_entries.min(RowCounts::MOST_ENTRIES),
             false => 1 + rng.index(options.most_entries.min(40)),
         };
         Page {
@@ -73,7 +69,7 @@ impl Page {
             entries: Vec::new(),
             present: 0,
             most_entries: 0,
-            most_present: MOST_PRESENT,
+            most_present: RowCounts::MOST_ROWS,
             heap: 0,
         }
     }
@@ -129,7 +125,7 @@ impl Page {
     /// for rows of the page, until there are at least so many entries and so
     /// many present rows, as far as they fit.
     fn add_entries(&mut self, entries: usize, present: usize, options: &Options, rng: &mut Rng) {
-        self.most_entries = MOST_ENTRIES;
+        self.most_entries = RowCounts::MOST_ENTRIES;
         self.most_present = usize::MAX;
         let named: Vec<usize> = (0..self.entries.len())
             .filter(|number| self.entries[*number].row.is_some())
@@ -160,7 +156,7 @@ impl Page {
             true => rng.pick(&ENTRIES_AIMED_AT),
             false => (16 * group + rng.index(3)).saturating_sub(1),
         };
-        let all_present = entries.min(MOST_PRESENT);
+        let all_present = entries.min(RowCounts::MOST_ROWS);
         let (entries, present) = match rng.below(16) {
             0..5 => (entries, 0),
             5..9 => (all_present, all_present),

@@ -3,9 +3,9 @@
 use super::content::{Row, Tables};
 use super::encode::Chunk;
 use super::marked::MarkedBytes;
-use super::plan::{self, Entry, Page, MOST_PRESENT};
+use super::plan::{self, Entry, Page};
 use super::{Expected, ExpectedRow, ExpectedTable, ExpectedText, Export, Options};
-use crate::model::{Refusal, Table, GROUP_SIZE, PAGE_HEADER};
+use crate::model::{Refusal, RowCounts, Table, GROUP_SIZE, PAGE_HEADER};
 use crate::rng::Rng;
 
 /// The most that num_tables may be (rule 3.6).
@@ -207,25 +207,26 @@ impl Writer<'_> {
     fn put_counts(&mut self, start: usize, page: &Page, past_last: u32) -> bool {
         let num_row_offsets = page.entries.len();
         let wrong_counts = self.options.wrong_counts;
-        let num_rows = match page.present > MOST_PRESENT {
+        let num_rows = match page.present > RowCounts::MOST_ROWS {
             true => self.cut_count(page),
             false if wrong_counts > 0 && self.rng.chance(wrong_counts, 100) => {
                 self.wrong_count(page, past_last)
             }
             false => page.present,
         };
-        let row_counts = (num_rows << 13 | num_row_offsets) as u32;
-        self.file.put(start + 0x18, &row_counts.to_le_bytes()[..3]);
+        let row_counts = RowCounts::bytes(num_row_offsets, num_rows);
+        self.file.put(start + 0x18, &row_counts);
         self.fill_unread_count(start, num_row_offsets);
         num_rows == page.present
     }
 
-    /// A count for more present rows than a header can tell, mostly the low
+    /// A count for more present rows than a header can hold, mostly the low
     /// bits of their number.
     fn cut_count(&mut self, page: &Page) -> usize {
-        let low_bits = page.present & MOST_PRESENT;
-        let any = self.rng.index(MOST_PRESENT + 1);
-        self.rng.pick(&[low_bits, low_bits, MOST_PRESENT, 0, any])
+        let most = RowCounts::MOST_ROWS;
+        let low_bits = page.present & most;
+        let any = self.rng.index(most + 1);
+        self.rng.pick(&[low_bits, low_bits, most, 0, any])
     }
 
     /// A count that is mostly wrong: off by one, of all entries, with the
@@ -238,7 +239,7 @@ impl Writer<'_> {
             page.present + past_last as usize,
             0,
         ];
-        self.rng.pick(&counts) & MOST_PRESENT
+        self.rng.pick(&counts) & RowCounts::MOST_ROWS
     }
 
     /// Bytes `22` and `23`, which no rule names. Tidy exports have there what

@@ -50,12 +50,36 @@ pub struct RowCounts {
 }
 
 impl RowCounts {
+    /// The most entries that a header can hold: 8,191.
+    pub const MOST_ENTRIES: usize = (1 << 13) - 1;
+    /// The most present rows that a header can hold: 2,047.
+    pub const MOST_ROWS: usize = (1 << 11) - 1;
+
     /// The parts of `row_counts`, a number of 24 bits.
     pub fn of(row_counts: u32) -> Self {
         RowCounts {
             num_row_offsets: (row_counts & 0x1fff) as u16,
             num_rows: (row_counts >> 13) as u16,
         }
+    }
+
+    /// Bytes `18` to `1a` of a header with these counts, of which the low 13 and
+    /// the low 11 bits are taken. It is not built from [`RowCounts::of`], so that
+    /// a misreading there does not change what the generator writes.
+    ///
+    /// ```
+    /// use sarvoltig_reference::model::RowCounts;
+    ///
+    /// assert_eq!(RowCounts::bytes(300, 290), [0x2c, 0x41, 0x24]);
+    /// let most = RowCounts::bytes(RowCounts::MOST_ENTRIES, RowCounts::MOST_ROWS);
+    /// assert_eq!(most, [0xff; 3]);
+    /// assert_eq!(RowCounts::bytes(8_192, 2_048), [0; 3]);
+    /// ```
+    pub fn bytes(num_row_offsets: usize, num_rows: usize) -> [u8; 3] {
+        let entries = num_row_offsets & Self::MOST_ENTRIES;
+        let rows = num_rows & Self::MOST_ROWS;
+        let [low, middle, high, ..] = (entries | rows << 13).to_le_bytes();
+        [low, middle, high]
     }
 }
 

@@ -194,7 +194,7 @@ fn more_than_2047_present_rows_are_13() {
     }
 }
 
-/// The genre of this page has a malformed name, then one that starts past it.
+/// The page has a malformed name, then a row that starts past the page.
 #[test]
 fn the_number_of_present_rows_is_compared_before_any_row_is_looked_at() {
     for (offset, fault) in [([0, 0], 15), ([0xff, 0xff], 14)] {
@@ -223,8 +223,14 @@ fn case_d_has_two_entries_and_one_present_row() {
     assert_eq!(file[1024 + 0x18..1024 + 0x1b], [2, 0x20, 0]);
     let genres = |file: &[u8]| whole(file).rows(1u8, &mut [0; 4]);
     assert_eq!(genres(&file), Ok(Rows::Full { rows: 1, pages: 2 }));
-    for [low, middle] in [[2, 0], [2, 0x40], [2, 0x21], [1, 0x20], [2, 0x60]] {
-        file[1024 + 0x18..1024 + 0x1a].copy_from_slice(&[low, middle]);
+    for row_counts in [
+        [2, 0, 0],
+        [2, 0x40, 0],
+        [2, 0x20, 0x80],
+        [1, 0x20, 0],
+        [2, 0x60, 0],
+    ] {
+        file[1024 + 0x18..1024 + 0x1b].copy_from_slice(&row_counts);
         let refused = Refusal {
             number: 13,
             carries: 2,

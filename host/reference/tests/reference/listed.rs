@@ -194,15 +194,15 @@ fn an_index_that_does_not_fit_is_13_whatever_the_place() {
 /// Page 1 has 5 entries, of which 4 are present.
 #[test]
 fn a_wrong_number_of_present_rows_is_13_whatever_the_place() {
-    for [low, high] in [
-        [5, 0x60],
-        [5, 0xa0],
-        [5, 0],
-        [5, 0x81],
-        [4, 0x80],
-        [6, 0xe0],
+    for row_counts in [
+        [5, 0x60, 0],
+        [5, 0xa0, 0],
+        [5, 0, 0],
+        [5, 0x80, 0x80],
+        [4, 0x80, 0],
+        [6, 0xe0, 0],
     ] {
-        let edit = |file: &mut [u8]| file[512 + 0x18..512 + 0x1a].copy_from_slice(&[low, high]);
+        let edit = |file: &mut [u8]| file[512 + 0x18..512 + 0x1b].copy_from_slice(&row_counts);
         assert_eq!(edited(edit, &[A], 0), refused(13, 1));
         assert_eq!(edited(edit, &[A + 1], 0), refused(13, 1));
         assert_eq!(edited(edit, &[A, B, B, C, C], 4), refused(13, 1));
