@@ -172,7 +172,7 @@ examples =
     -- read from a list: block 0, of page 2 its header and row index and the row that is named, and nothing of page 1
     yesAt (1080 ∷ []) 0x04 ∷ yesAt (1080 ∷ []) 1028 ∷ yesAt (1080 ∷ []) 1528 ∷ yesAt (1080 ∷ []) 1532 ∷ yesAt (1080 ∷ []) 1084 ∷
     noAt (1080 ∷ []) 1058 ∷ noAt (1080 ∷ []) 1079 ∷ noAt (1080 ∷ []) 1534 ∷ noAt (1080 ∷ []) 516 ∷
-    -- the same of a page that counts its rows wrong, and of one whose index does not fit
+    -- read from a list on a page that counts its rows wrong: of index and rows the flags alone; where the index does not fit, no flag
     yesAtIn miscounted (1080 ∷ []) 1532 ∷ noAtIn miscounted (1080 ∷ []) 1528 ∷ noAtIn miscounted (1080 ∷ []) 1080 ∷ noAtIn tooLong (1080 ∷ []) 1532 ∷
     -- the place of the absent row: no byte of any row; a place on page 0, and no element: block 0 alone
     yesAt (1064 ∷ []) 1532 ∷ noAt (1064 ∷ []) 1064 ∷ noAt (1064 ∷ []) 1080 ∷ noAt (40 ∷ []) 516 ∷ yesAt [] 0x1c ∷ noAt [] 1028 ∷
