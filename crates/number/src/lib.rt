@@ -1,6 +1,6 @@
 // Little-endian and big-endian numbers in a byte slice. A byte past the slice's end counts as 0.
 ghost use mathlib.Core.Path.{_≡_};
-ghost use Prim.Native.Nat.{_+_, _*_};
+ghost use Prim.Native.Nat.{_+_, _*_, _^_, _<_};
 ghost use Rattle.number.specs.Number.{byteAt, le16, le24, le32, be16, be32};
 
 // The byte at an offset, 0 past the end.
@@ -37,7 +37,7 @@ fn double(low: u16, high: u16) -> u32
 
 // The number in the three bytes at an offset, the low one first.
 pub fn u24_at(s: &[u8], at: usize) -> u32
-    ensures { λ r. ⌜ r ≡ le24 (now (s .entry)) at ⌝ }
+    ensures { λ r. ⌜ (r ≡ le24 (now (s .entry)) at) × (r < 2 ^ 24) ⌝ }
 {
     if s.len() <= at {
         return 0;

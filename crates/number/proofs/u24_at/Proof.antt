@@ -8,7 +8,7 @@ use Rattle.number.proofs.u24_at.Statement.{statement}
 use Rattle.number.proofs.u24_at.Tie as tie
 
 returns : tie.Need-returns
-returns c = sym (le24-past _ _ (c .if1 .taken))
+returns c = (sym (le24-past _ _ (c .if1 .taken)), omega arith)
 
 u16-at-requires : tie.Need-u16-at-requires
 u16-at-requires c κs = search needs
@@ -27,7 +27,7 @@ double-requires c κs = search needs
 
 returns-2 : tie.Need-returns-2
 unfolding le24
-returns-2 c = omega arith
+returns-2 c = (omega arith, omega arith)
 
 pub u24-at-spec : {M : Type 1} → statement M
 u24-at-spec =

@@ -13,7 +13,7 @@ cast-result c = search needs
 
 returns : tie.Need-returns
 unfolding entries
-returns c = (rw (c .u24-at .ensures), omega arith)
+returns c = (rw (c .u24-at .ensures .0), omega arith)
 
 pub entry-count-spec : {M : Type 1} → statement M
 entry-count-spec = tie.close (tie.spec u24-at-requires cast-result returns)

@@ -9,7 +9,7 @@ u24-at-requires c κs = search needs
 
 returns : tie.Need-returns
 unfolding num-rows
-returns c = rw (c .u24-at .ensures)
+returns c = rw (c .u24-at .ensures .0)
 
 pub num-rows-spec : {M : Type 1} → statement M
 num-rows-spec = tie.close (tie.spec u24-at-requires returns)
