@@ -43,9 +43,11 @@ typedef struct {
     size_t count;
 } Rows;
 
-/* A row of the playlist tree, with its index in the list. */
+/* A row of the playlist tree, with its index in the list, and its page and index entry in the file. */
 typedef struct {
     size_t i;
+    uint64_t page;
+    uint64_t index_entry;
     uint64_t parent;
     uint64_t order;
     uint64_t id;
@@ -75,27 +77,28 @@ typedef struct {
     Track *tracks;
 } Library;
 
+/* What is wrong, by the refusal's number. Those about ANLZ files are not met here. */
 static const char *const reasons[] = {
-    "",
-    "the file's length is not a multiple of 512 from 512 to 268435456",
-    "the image is shorter than the file",
-    "the map is too short",
-    "the map has a bit behind the last block",
-    "there is no such block",
-    "there are not 512 bytes for each block",
-    "the block is held with other bytes",
-    "there is no such table type",
-    "the file header is broken",
-    "the file has no such table",
-    "a link names no page; it stands on page",
-    "the header disagrees, of page",
-    "the row index does not fit or has not as many rows as counted, of page",
-    "a row does not fit, on page",
-    "a string is malformed or outside, on page",
-    "the table's pages come back to one before the last",
-    "the list is too short for the rows or blocks, which are",
-    "there is no such record",
-    "there is no such string slot",
+    [SARVOLTIG_LENGTH] = "the file's length is not a multiple of 512 from 512 to 268435456",
+    [SARVOLTIG_IMAGE_SHORT] = "the image is shorter than the file",
+    [SARVOLTIG_MAP_SHORT] = "the map is too short",
+    [SARVOLTIG_MAP_SPARE] = "the map has a bit behind the last block",
+    [SARVOLTIG_BLOCK_NUMBER] = "there is no such block",
+    [SARVOLTIG_PIECE_SIZE] = "there are not 512 bytes for each block",
+    [SARVOLTIG_BLOCK_DIFFERS] = "the block is held with other bytes",
+    [SARVOLTIG_TABLE_TYPE] = "there is no such table type",
+    [SARVOLTIG_FILE_HEADER] = "the file header is broken",
+    [SARVOLTIG_NO_POINTER] = "the file has no such table",
+    [SARVOLTIG_PAGE_LINK] = "a link names no page; it stands on page",
+    [SARVOLTIG_PAGE_NUMBER] = "another page's number stands on page",
+    [SARVOLTIG_ROW_INDEX] = "the row index does not fit or has not as many rows as counted, of page",
+    [SARVOLTIG_ROW_SHORT] = "a row does not fit, on page",
+    [SARVOLTIG_TEXT_FAULT] = "a string is malformed or outside, on page",
+    [SARVOLTIG_CHAIN_LOOP] = "the table's pages come back to one before the last",
+    [SARVOLTIG_LIST_SHORT] = "the list is too short for the rows or blocks, which are",
+    [SARVOLTIG_NO_ROW] = "there is no such record",
+    [SARVOLTIG_NO_SLOT] = "there is no such string slot",
+    [SARVOLTIG_PAGE_TYPE] = "another table's type stands on page",
 };
 
 static void fail(const char *format, ...)
@@ -117,13 +120,25 @@ static void refuse(const char *asked, uint32_t code, const uint64_t *result)
     if (code == SARVOLTIG_WAITING) {
         fail("%s: page %" PRIu64 " is not there", asked, result[SARVOLTIG_PAGE]);
     }
-    if (code >= sizeof reasons / sizeof reasons[0]) {
+    if (code >= sizeof reasons / sizeof reasons[0] || reasons[code] == NULL) {
         fail("%s: refused %" PRIu32, asked, code);
     }
-    if (code == SARVOLTIG_LIST_SHORT || (code >= SARVOLTIG_PAGE_LINK && code <= SARVOLTIG_TEXT_FAULT)) {
-        fail("%s: refused %" PRIu32 ", %s %" PRIu64, asked, code, reasons[code], result[0]);
+    switch (code) {
+    case SARVOLTIG_ROW_SHORT:
+    case SARVOLTIG_TEXT_FAULT:
+        fail("%s: refused %" PRIu32 ", %s %" PRIu64 ", index entry %" PRIu64, asked, code, reasons[code],
+             result[SARVOLTIG_REFUSAL_VALUE], result[SARVOLTIG_REFUSAL_ENTRY]);
+        break;
+    case SARVOLTIG_PAGE_LINK:
+    case SARVOLTIG_PAGE_NUMBER:
+    case SARVOLTIG_PAGE_TYPE:
+    case SARVOLTIG_ROW_INDEX:
+    case SARVOLTIG_LIST_SHORT:
+        fail("%s: refused %" PRIu32 ", %s %" PRIu64, asked, code, reasons[code], result[SARVOLTIG_REFUSAL_VALUE]);
+        break;
+    default:
+        fail("%s: refused %" PRIu32 ", %s", asked, code, reasons[code]);
     }
-    fail("%s: refused %" PRIu32 ", %s", asked, code, reasons[code]);
 }
 
 /* Memory for so many elements, at least one, so that it is not NULL. */
@@ -274,7 +289,7 @@ static Rows read_rows(const Intake *intake, uint32_t table, const char *name)
     return rows;
 }
 
-/* The numbers of row i of a table. */
+/* The record of row i of a table: its page and index entry, and its numbers. */
 static void read_record(const Intake *intake, const Rows *rows, size_t i, uint64_t *result)
 {
     uint32_t code = sarvoltig_record_in(intake->len, intake->image, (size_t)intake->len, intake->map, intake->map_len,
@@ -334,6 +349,8 @@ static void read_nodes(const Intake *intake, Library *library)
 
         read_record(intake, &rows, i, result);
         node->i = i;
+        node->page = result[SARVOLTIG_ROW_PAGE];
+        node->index_entry = result[SARVOLTIG_ROW_ENTRY];
         node->parent = result[SARVOLTIG_NODE_PARENT_ID];
         node->order = result[SARVOLTIG_NODE_SORT_ORDER];
         node->id = result[SARVOLTIG_NODE_ID];
@@ -556,8 +573,11 @@ int main(int argc, char **argv)
     read_tracks(&intake, &library);
     print_children(&intake, &library, 0, 0);
     for (i = 0; i < library.node_rows.count; i++) {
-        if (!library.nodes[i].is_printed) {
-            fail("playlist tree: row %zu has no way to the root", library.nodes[i].i);
+        const Node *node = &library.nodes[i];
+
+        if (!node->is_printed) {
+            fail("playlist tree: the row of index entry %" PRIu64 " on page %" PRIu64 " has no way to the root",
+                 node->index_entry, node->page);
         }
     }
     if (fflush(stdout) != 0) {

@@ -1,27 +1,32 @@
 /*
- * Sarvoltig: a proved reader of rekordbox files: of export.pdb files that arrive in blocks of 512 bytes, and of the beat grid
- * of whole ANLZ files.
+ * Sarvoltig: a proved reader of rekordbox files: of export.pdb files that arrive in blocks of 512 bytes, and of the
+ * beat grid of whole ANLZ files.
  *
- * The caller owns all memory: for an export the image (the file's bytes) and the map (one bit for each block), for an ANLZ
- * file the file's bytes, and the result (numbers). The functions keep no state, allocate nothing and call nothing but memcpy
- * and memset. Each answers every input: it returns a code and writes the answer's values to the front of the result, as many
- * as the result takes; the rest of it stays. A result of SARVOLTIG_RESULT numbers takes every answer.
+ * The caller owns all memory: for an export the image (the file's bytes) and the map (one bit for each block), for an
+ * ANLZ file the file's bytes, and the result (numbers). The functions keep no state, allocate nothing and call nothing
+ * but memcpy and memset. Each answers every input: it returns a code and writes the answer's values to the front of the
+ * result, as many as the result takes; the rest of it stays. A result of SARVOLTIG_RESULT numbers takes every answer.
  *
  *     code        answer                                           values
  *     0           SARVOLTIG_DONE                                   those of the function, below
- *     1 to 63     refused, by its number (docs/RULES.md, 2, 14)    what the refusal carries, 0 where it carries nothing
+ *     1 to 63     refused, by its number (docs/RULES.md, 2, 14)    value and entry, SARVOLTIG_REFUSAL_..
  *     64          SARVOLTIG_SAME (deliveries, codes)               those of the function
  *     65          SARVOLTIG_WAITING (questions, lists)             rows found, pages walked, page that is waited for
  *
- * Blocks that arrive together go in by one call, sarvoltig_packet, which writes a code for each of them to a slice, codes.
+ * Blocks that arrive together go in by one call, sarvoltig_packet, which writes a code for each of them to a slice,
+ * codes.
  *
- * A refused call changes no memory but the result. sarvoltig_rows, sarvoltig_record and sarvoltig_text walk the table's pages
- * from the first, so their time grows with the table. To read many rows, call sarvoltig_rows once and read them from its
- * list with sarvoltig_record_in and sarvoltig_text_in, which look at one page.
+ * A refused call changes no memory but the result. sarvoltig_rows, sarvoltig_record and sarvoltig_text walk the table's
+ * pages from the first, so their time grows with the table. To read many rows, call sarvoltig_rows once and read them
+ * from its list with sarvoltig_record_in and sarvoltig_text_in, which look at one page.
  *
- * An ANLZ file is asked with sarvoltig_beats and sarvoltig_beat as soon as all of it is there: it needs no opening, no image
- * and no map, the file is only read, and no answer waits. Each call goes through all sections and all beats, so n beats one
- * by one take time that grows with the square of n: read them once and keep them.
+ * The rows of a page are named by the index entries at its end. An index entry is counted from 0 on its page, and the
+ * absent ones, whose rows are skipped, are counted too. Two entries may name one row: it is then found twice, and each
+ * of the two records has its own entry.
+ *
+ * An ANLZ file is asked with sarvoltig_beats and sarvoltig_beat as soon as all of it is there: it needs no opening, no
+ * image and no map, the file is only read, and no answer waits. Each call goes through all sections and all beats, so n
+ * beats one by one take time that grows with the square of n: read them once and keep them.
  *
  * A slice is a pointer and the number of elements that it points to. What the caller has to keep:
  *   - a pointer is aligned for its type and not NULL, also where the number is 0;
@@ -44,7 +49,7 @@ extern "C" {
 enum {
     SARVOLTIG_BLOCK = 512,         /* bytes in a block */
     SARVOLTIG_LONGEST = 268435456, /* bytes in the longest export */
-    SARVOLTIG_RESULT = 22          /* numbers in the longest answer, a track's record */
+    SARVOLTIG_RESULT = 24          /* numbers in the longest answer, a track's record */
 };
 
 /* The words of the map that a file of len bytes uses. A longer map is allowed; its other words stay. */
@@ -57,7 +62,12 @@ enum {
     SARVOLTIG_WAITING = 65
 };
 
-/* Refusals. What one carries is named behind it; the others carry 0. */
+/*
+ * Refusals. What value and entry are is said behind a colon, the value first; they are 0 where nothing is said.
+ *
+ * Of a page's header 12 is tested, then 25. 12: a page with another number stands there, which hints at a fetch fault.
+ * 25: a page of another table stands there, which hints at a bad medium.
+ */
 enum {
     SARVOLTIG_LENGTH = 1,         /* the file's length is not a multiple of 512 from 512 to SARVOLTIG_LONGEST */
     SARVOLTIG_IMAGE_SHORT = 2,    /* the image is shorter than the file */
@@ -70,22 +80,32 @@ enum {
     SARVOLTIG_FILE_HEADER = 9,    /* the file header is broken */
     SARVOLTIG_NO_POINTER = 10,    /* the file has no such table */
     SARVOLTIG_PAGE_LINK = 11,     /* a link names no page: the page that holds it, 0 for the file header */
-    SARVOLTIG_PAGE_HEADER = 12,   /* a page's header names another page or table: the page */
+    SARVOLTIG_PAGE_NUMBER = 12,   /* a page's header names another page: the page */
     SARVOLTIG_ROW_INDEX = 13,     /* a row index does not fit, or has not as many rows as counted: the page */
-    SARVOLTIG_ROW_SHORT = 14,     /* a row does not fit, or an artist row is of no known subtype: the page */
-    SARVOLTIG_TEXT_FAULT = 15,    /* a string is malformed or outside, or a code has no zero byte: the page */
+    SARVOLTIG_ROW_SHORT = 14,     /* a row does not fit, or an artist row is of no known subtype: page, index entry */
+    SARVOLTIG_TEXT_FAULT = 15,    /* a string is malformed or outside, or a code has no zero byte: page, index entry */
     SARVOLTIG_CHAIN_LOOP = 16,    /* a table's pages come back to one before the last */
-    SARVOLTIG_LIST_SHORT = 17,    /* the list is shorter than the rows found, or codes than the packet: the rows or blocks */
+    SARVOLTIG_LIST_SHORT = 17,    /* the list has no room for the rows, or codes for the packet: the rows or blocks */
     SARVOLTIG_NO_ROW = 18,        /* the table has no such record, the list no such row, or the grid no such beat */
     SARVOLTIG_NO_SLOT = 19,       /* the table's records have no such string slot */
     SARVOLTIG_ANLZ_HEADER = 20,   /* the header of an ANLZ file is broken, or len_file is not the file's length */
-    SARVOLTIG_SECTION = 21,       /* a section is malformed or ends past the file, or bytes are left over behind the last */
+    SARVOLTIG_SECTION = 21,       /* a section is malformed or ends past the file, or bytes are left over at the end */
     SARVOLTIG_NO_GRID = 22,       /* no section is a beat grid, PQTZ */
     SARVOLTIG_GRID_LENGTH = 23,   /* the beats do not fill the grid's section exactly */
-    SARVOLTIG_BAR_POSITION = 24   /* the bar position of a beat, whichever it is, is not 1 to 4 */
+    SARVOLTIG_BAR_POSITION = 24,  /* the bar position of a beat, whichever it is, is not 1 to 4 */
+    SARVOLTIG_PAGE_TYPE = 25      /* a page's header names another table type: the page */
 };
 
-/* Tables, with the values of their records. Every table but the playlist entries has strings: tracks 21 slots, the others slot 0. */
+/* Where a refusal's numbers stand in the result. Every refusal writes both. */
+enum {
+    SARVOLTIG_REFUSAL_VALUE,
+    SARVOLTIG_REFUSAL_ENTRY /* the index entry, 0 but for 14 and 15 */
+};
+
+/*
+ * Tables, with their records' own numbers, which stand in the result from SARVOLTIG_ROW_NUMBERS on. Every table but the
+ * playlist entries has strings: tracks 21 slots, the others slot 0.
+ */
 enum {
     SARVOLTIG_TRACKS = 0,           /* SARVOLTIG_TRACK_.. */
     SARVOLTIG_GENRES = 1,           /* id */
@@ -99,9 +119,16 @@ enum {
     SARVOLTIG_ARTWORK = 13          /* id */
 };
 
-/* Where a track's numbers stand in the result. */
+/* Where the numbers of a record stand in the result: for every table its row's page and index entry, then its own. */
 enum {
-    SARVOLTIG_TRACK_SAMPLE_RATE,
+    SARVOLTIG_ROW_PAGE,
+    SARVOLTIG_ROW_ENTRY,
+    SARVOLTIG_ROW_NUMBERS /* the first of its own */
+};
+
+/* A track. */
+enum {
+    SARVOLTIG_TRACK_SAMPLE_RATE = SARVOLTIG_ROW_NUMBERS,
     SARVOLTIG_TRACK_COMPOSER_ID,
     SARVOLTIG_TRACK_FILE_SIZE,
     SARVOLTIG_TRACK_ARTWORK_ID,
@@ -127,13 +154,13 @@ enum {
 
 /* A row of the playlist tree, and an entry of a playlist. */
 enum {
-    SARVOLTIG_NODE_PARENT_ID,
+    SARVOLTIG_NODE_PARENT_ID = SARVOLTIG_ROW_NUMBERS,
     SARVOLTIG_NODE_SORT_ORDER,
     SARVOLTIG_NODE_ID,
     SARVOLTIG_NODE_RAW_IS_FOLDER /* other than 0 for a folder */
 };
 enum {
-    SARVOLTIG_ENTRY_INDEX,
+    SARVOLTIG_ENTRY_INDEX = SARVOLTIG_ROW_NUMBERS, /* its position in the playlist, and no index entry */
     SARVOLTIG_ENTRY_TRACK_ID,
     SARVOLTIG_ENTRY_PLAYLIST_ID
 };
@@ -195,8 +222,8 @@ uint32_t sarvoltig_open(uint64_t len,
                         uint64_t *result, size_t result_len);
 
 /*
- * Delivers a block, the 512 bytes of the file from block * 512 on. A block that is not held is copied to the image and its
- * bit is set in the map; otherwise both stay.
+ * Delivers a block, the 512 bytes of the file from block * 512 on. A block that is not held is copied to the image and
+ * its bit is set in the map; otherwise both stay.
  *
  *     0           new: the number of blocks held, with this one
  *     64          the block was held with the same bytes: the number of blocks held
@@ -210,13 +237,14 @@ uint32_t sarvoltig_deliver(uint64_t len,
                            uint64_t *result, size_t result_len);
 
 /*
- * Delivers a packet, any number of blocks in one call: block blocks[i] with the 512 bytes of pieces from i * 512 on. Image
- * and map become what sarvoltig_deliver makes of them for one block after the other, and codes[i] the code that it gives.
+ * Delivers a packet, any number of blocks in one call: block blocks[i] with the 512 bytes of pieces from i * 512 on.
+ * Image and map become what sarvoltig_deliver makes of them for one block after the other, and codes[i] the code that
+ * it gives.
  *
  *     0           the number of blocks held after the packet
  *     1 to 4      refused
  *     6           refused: pieces_len is not blocks_len * 512
- *     17          refused: codes_len is below blocks_len, which is carried
+ *     17          refused: codes_len is below blocks_len, which is the value
  *
  * A refused packet brings no block, and codes stays. Otherwise each block has its code, and codes behind them stays:
  *
@@ -246,12 +274,12 @@ uint32_t sarvoltig_packet(uint64_t len,
                           uint64_t *result, size_t result_len);
 
 /*
- * Asks for all rows of a table. A row's place is the byte offset in the image where it starts. The places are written to
- * the list from its first element on; elements behind them stay.
+ * Asks for all rows of a table. A row's place is the byte offset in the image where it starts. The places are written
+ * to the list from its first element on; elements behind them stay.
  *
  *     0           all rows: how many, and the pages walked
  *     65          the rows so far: how many, the pages walked, and the first page that is not wholly held
- *     1 to 4, 8 to 17      refused; the list stays. 17 carries the length that the list needs
+ *     1 to 4, 8 to 17, 25          refused; the list stays. The value of 17 is the length that the list needs
  */
 uint32_t sarvoltig_rows(uint64_t len,
                         const uint8_t *image, size_t image_len,
@@ -263,9 +291,9 @@ uint32_t sarvoltig_rows(uint64_t len,
 /*
  * Asks for record k of a table, from 0, in the order of its rows.
  *
- *     0           the record's numbers, as the table of tables above has them
+ *     0           the row's page and index entry, and the record's own numbers: SARVOLTIG_ROW_..
  *     65          not found so far: rows, pages and page, as above
- *     1 to 4, 8 to 16, 18  refused
+ *     1 to 4, 8 to 16, 18, 25      refused
  */
 uint32_t sarvoltig_record(uint64_t len,
                           const uint8_t *image, size_t image_len,
@@ -278,14 +306,14 @@ uint32_t sarvoltig_record(uint64_t len,
  *
  *     0           the text's place in the image, its length in bytes and its encoding. The text is not decoded
  *     65          not found so far: rows, pages and page, as above
- *     1 to 4, 8 to 16, 18, 19      refused
+ *     1 to 4, 8 to 16, 18, 19, 25  refused
  *
  * Slot 0 of a track, SARVOLTIG_SLOT_ISRC, and no other slot or table, may hold a recording code: a string of kind 90
  * with a total length of 5 or more and the byte 03 behind its four head bytes. Its text is what stands between the 03
  * and the first zero byte behind it, with the encoding SARVOLTIG_ASCII. The total length may be odd, and bytes behind
- * the zero byte belong to the string and not to the text. Without a zero byte inside the total length it is refused with
- * 15. As in every text of that encoding, bytes are not tested for ASCII: some may be above 7f. A string that slot 0
- * shares with another slot is read in both ways, and is refused with 15 unless it is right in both.
+ * the zero byte belong to the string and not to the text. Without a zero byte inside the total length it is refused
+ * with 15. As in every text of that encoding, bytes are not tested for ASCII: some may be above 7f. A string that slot
+ * 0 shares with another slot is read in both ways, and is refused with 15 unless it is right in both.
  */
 uint32_t sarvoltig_text(uint64_t len,
                         const uint8_t *image, size_t image_len,
@@ -294,17 +322,18 @@ uint32_t sarvoltig_text(uint64_t len,
                         uint64_t *result, size_t result_len);
 
 /*
- * Reads the record of a row from a list of places that sarvoltig_rows wrote: the row of element i, from 0. Of the file it
- * looks at block 0 and at the row's page alone, and it writes nothing but the result. Any list and any i are answered.
+ * Reads the record of a row from a list of places that sarvoltig_rows wrote: the row of element i, from 0. Of the file
+ * it looks at block 0 and at the row's page alone, and it writes nothing but the result. Any list and any i are
+ * answered.
  *
- *     0           the record's numbers, as sarvoltig_record gives them
+ *     0           page, index entry and numbers, as sarvoltig_record gives them
  *     65          0 rows, 0 pages, and the row's page, which is not wholly held; page 0 where block 0 is not held
- *     1 to 4, 8, 9, 12 to 15, 18   refused, 14 and 15 for this row alone. 18: the list has no element i, or the element is
- *                                  not the place of a row
+ *     1 to 4, 8, 9, 12 to 15, 18, 25       refused, 14 and 15 for this row alone. 18: the list has no element i, or
+ *                                          the element is not the place of a row
  *
- * For the list as sarvoltig_rows left it and i below the rows found, the answer is that of sarvoltig_record for k = i, and
- * it stays as more blocks arrive. The elements before i tell which of the page's rows is meant, as two may start at one
- * place: pass the list from its first element on.
+ * For the list as sarvoltig_rows left it and i below the rows found, the answer is that of sarvoltig_record for k = i,
+ * and it stays as more blocks arrive. The elements before i tell which of the page's rows is meant, as two may start at
+ * one place: pass the list from its first element on.
  */
 uint32_t sarvoltig_record_in(uint64_t len,
                              const uint8_t *image, size_t image_len,
@@ -319,7 +348,7 @@ uint32_t sarvoltig_record_in(uint64_t len,
  *
  *     0           place, length and encoding, as sarvoltig_text gives them, also of a recording code
  *     65          0 rows, 0 pages and the page, as above
- *     1 to 4, 8, 9, 12 to 15, 18, 19   refused, as above; 19 for a slot that the table has not
+ *     1 to 4, 8, 9, 12 to 15, 18, 19, 25   refused, as above; 19 for a slot that the table has not
  */
 uint32_t sarvoltig_text_in(uint64_t len,
                            const uint8_t *image, size_t image_len,

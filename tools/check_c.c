@@ -1,7 +1,8 @@
 /*
- * Runs case D (rule 9.11), block by block and in packets, the same with other row counts, a track with a recording code and a
- * small ANLZ file through the C interface. Every slice that is written has guard elements behind it: each call has to give the
- * code and the values of the rules, and to leave everything else as it was.
+ * Runs case D (rule 9.11), block by block and in packets, the same with other row counts and page headers, rows of
+ * several tables with absent entries and two for one row, a track with a recording code and a small ANLZ file through
+ * the C interface. Every slice that is written has guard elements behind it: each call has to give the code and the
+ * values of the rules, and to leave everything else as it was.
  */
 #include <inttypes.h>
 #include <stdint.h>
@@ -55,9 +56,8 @@ static uint64_t *clear(void)
 }
 
 /* The call's code and values; what stands behind the values is as before the call. */
-static void answers(const char *what, uint32_t code, uint32_t expected, size_t count, uint64_t a, uint64_t b, uint64_t c)
+static void has_values(const char *what, uint32_t code, uint32_t expected, size_t count, const uint64_t *values)
 {
-    const uint64_t values[3] = {a, b, c};
     size_t i;
 
     if (code != expected) {
@@ -74,6 +74,26 @@ static void answers(const char *what, uint32_t code, uint32_t expected, size_t c
     }
 }
 
+/* The call's code and up to three values. */
+static void answers(const char *what, uint32_t code, uint32_t expected, size_t count, uint64_t a, uint64_t b, uint64_t c)
+{
+    const uint64_t values[3] = {a, b, c};
+
+    has_values(what, code, expected, count, values);
+}
+
+/* A refusal writes its value and its entry. */
+static void refused(const char *what, uint32_t code, uint32_t expected, uint64_t value, uint64_t entry)
+{
+    answers(what, code, expected, 2, value, entry, 0);
+}
+
+static void put16(size_t at, uint32_t n)
+{
+    file[at] = (uint8_t)n;
+    file[at + 1] = (uint8_t)(n >> 8);
+}
+
 static void put32(size_t at, uint32_t n)
 {
     size_t i;
@@ -85,6 +105,7 @@ static void put32(size_t at, uint32_t n)
 
 static void make_file(void)
 {
+    memset(file, 0, sizeof file);
     put32(0x04, 512);
     put32(0x08, 1);
     put32(0x1c, SARVOLTIG_GENRES);
@@ -179,13 +200,14 @@ static uint32_t text_in(uint32_t table, size_t length, uint64_t i, uint64_t slot
 
 static void run_intake(void)
 {
-    answers("delivery before any opening", sarvoltig_deliver(0, image, LEN, map, 1, 0, file, 512, clear(), SARVOLTIG_RESULT),
-            SARVOLTIG_LENGTH, 1, 0, 0, 0);
-    answers("opening of no file", sarvoltig_open(0, image, LEN, map, 1, clear(), SARVOLTIG_RESULT), SARVOLTIG_LENGTH, 1, 0, 0, 0);
-    answers("opening with a short image", sarvoltig_open(LEN, image, LEN - 1, map, 1, clear(), SARVOLTIG_RESULT),
-            SARVOLTIG_IMAGE_SHORT, 1, 0, 0, 0);
-    answers("opening with no map", sarvoltig_open(LEN, image, LEN, map, 0, clear(), SARVOLTIG_RESULT), SARVOLTIG_MAP_SHORT, 1, 0,
-            0, 0);
+    refused("delivery before any opening",
+            sarvoltig_deliver(0, image, LEN, map, 1, 0, file, 512, clear(), SARVOLTIG_RESULT), SARVOLTIG_LENGTH, 0, 0);
+    refused("opening of no file", sarvoltig_open(0, image, LEN, map, 1, clear(), SARVOLTIG_RESULT), SARVOLTIG_LENGTH, 0,
+            0);
+    refused("opening with a short image", sarvoltig_open(LEN, image, LEN - 1, map, 1, clear(), SARVOLTIG_RESULT),
+            SARVOLTIG_IMAGE_SHORT, 0, 0);
+    refused("opening with no map", sarvoltig_open(LEN, image, LEN, map, 0, clear(), SARVOLTIG_RESULT),
+            SARVOLTIG_MAP_SHORT, 0, 0);
     expect(map[0] == 0xa5a5a5a5a5a5a5a5u, "a refused opening leaves the map");
     answers("opening", sarvoltig_open(LEN, image, LEN, map, 1, clear(), SARVOLTIG_RESULT), SARVOLTIG_DONE, 1, 3, 0, 0);
     expect(map[0] == 0, "an opening clears the map");
@@ -196,10 +218,10 @@ static void run_intake(void)
     answers("record with page 1 missing", record(SARVOLTIG_GENRES, 0), SARVOLTIG_WAITING, 3, 0, 0, 1);
     answers("text with page 1 missing", text(SARVOLTIG_GENRES, 0, 0), SARVOLTIG_WAITING, 3, 0, 0, 1);
     answers("block 0 again", deliver(0, file, 512), SARVOLTIG_SAME, 1, 2, 0, 0);
-    answers("block 0 with other bytes", deliver(0, file + 512, 512), SARVOLTIG_BLOCK_DIFFERS, 1, 0, 0, 0);
-    answers("block 3", deliver(3, file, 512), SARVOLTIG_BLOCK_NUMBER, 1, 0, 0, 0);
-    answers("block 2^40", deliver((uint64_t)1 << 40, file, 512), SARVOLTIG_BLOCK_NUMBER, 1, 0, 0, 0);
-    answers("a short piece", deliver(1, file, 511), SARVOLTIG_PIECE_SIZE, 1, 0, 0, 0);
+    refused("block 0 with other bytes", deliver(0, file + 512, 512), SARVOLTIG_BLOCK_DIFFERS, 0, 0);
+    refused("block 3", deliver(3, file, 512), SARVOLTIG_BLOCK_NUMBER, 0, 0);
+    refused("block 2^40", deliver((uint64_t)1 << 40, file, 512), SARVOLTIG_BLOCK_NUMBER, 0, 0);
+    refused("a short piece", deliver(1, file, 511), SARVOLTIG_PIECE_SIZE, 0, 0);
     expect(map[0] == 5, "the map has blocks 0 and 2");
     answers("block 1", deliver(1, file + 512, 512), SARVOLTIG_DONE, 1, 3, 0, 0);
     expect(map[0] == 7 && memcmp(image, file, LEN) == 0, "the image is the file");
@@ -207,20 +229,20 @@ static void run_intake(void)
 
 static void run_questions(void)
 {
-    answers("rows for no list", rows(SARVOLTIG_GENRES, 0), SARVOLTIG_LIST_SHORT, 1, 1, 0, 0);
+    refused("rows for no list", rows(SARVOLTIG_GENRES, 0), SARVOLTIG_LIST_SHORT, 1, 0);
     expect(list[0] == 0xa5a5a5a5u, "a refusal leaves the list");
     answers("rows", rows(SARVOLTIG_GENRES, ROWS), SARVOLTIG_DONE, 2, 1, 2, 0);
     expect(list[0] == 1080 && list[1] == 0xa5a5a5a5u, "the list has the row's place, and no other");
-    answers("rows of an unknown table", rows(9, ROWS), SARVOLTIG_TABLE_TYPE, 1, 0, 0, 0);
-    answers("rows of table 2^32 - 1", rows(UINT32_MAX, ROWS), SARVOLTIG_TABLE_TYPE, 1, 0, 0, 0);
-    answers("rows of a table with no pointer", rows(SARVOLTIG_TRACKS, ROWS), SARVOLTIG_NO_POINTER, 1, 0, 0, 0);
-    answers("record 0", record(SARVOLTIG_GENRES, 0), SARVOLTIG_DONE, 1, 7, 0, 0);
-    answers("record 1", record(SARVOLTIG_GENRES, 1), SARVOLTIG_NO_ROW, 1, 0, 0, 0);
-    answers("record 2^32", record(SARVOLTIG_GENRES, (uint64_t)1 << 32), SARVOLTIG_NO_ROW, 1, 0, 0, 0);
+    refused("rows of an unknown table", rows(9, ROWS), SARVOLTIG_TABLE_TYPE, 0, 0);
+    refused("rows of table 2^32 - 1", rows(UINT32_MAX, ROWS), SARVOLTIG_TABLE_TYPE, 0, 0);
+    refused("rows of a table with no pointer", rows(SARVOLTIG_TRACKS, ROWS), SARVOLTIG_NO_POINTER, 0, 0);
+    answers("record 0", record(SARVOLTIG_GENRES, 0), SARVOLTIG_DONE, 3, 2, 1, 7);
+    refused("record 1", record(SARVOLTIG_GENRES, 1), SARVOLTIG_NO_ROW, 0, 0);
+    refused("record 2^32", record(SARVOLTIG_GENRES, (uint64_t)1 << 32), SARVOLTIG_NO_ROW, 0, 0);
     answers("text", text(SARVOLTIG_GENRES, 0, 0), SARVOLTIG_DONE, 3, 1085, 4, SARVOLTIG_ASCII);
     expect(memcmp(image + 1085, "Funk", 4) == 0, "the text is Funk");
-    answers("text of slot 1", text(SARVOLTIG_GENRES, 0, 1), SARVOLTIG_NO_SLOT, 1, 0, 0, 0);
-    answers("text of slot 2^32", text(SARVOLTIG_GENRES, 0, (uint64_t)1 << 32), SARVOLTIG_NO_SLOT, 1, 0, 0, 0);
+    refused("text of slot 1", text(SARVOLTIG_GENRES, 0, 1), SARVOLTIG_NO_SLOT, 0, 0);
+    refused("text of slot 2^32", text(SARVOLTIG_GENRES, 0, (uint64_t)1 << 32), SARVOLTIG_NO_SLOT, 0, 0);
     answers("text with a result of two",
             sarvoltig_text(LEN, image, LEN, map, 1, SARVOLTIG_GENRES, 0, 0, clear(), 2), SARVOLTIG_DONE, 2, 1085, 4, 0);
     answers("text with no result", sarvoltig_text(LEN, image, LEN, map, 1, SARVOLTIG_GENRES, 0, 0, clear(), 0), SARVOLTIG_DONE, 0,
@@ -231,28 +253,28 @@ static void run_questions(void)
 /* The list has the row's place, then elements that the question for all rows left as they were. */
 static void run_lists(void)
 {
-    answers("record in the list", record_in(SARVOLTIG_GENRES, ROWS, 0), SARVOLTIG_DONE, 1, 7, 0, 0);
+    answers("record in the list", record_in(SARVOLTIG_GENRES, ROWS, 0), SARVOLTIG_DONE, 3, 2, 1, 7);
     answers("text in the list", text_in(SARVOLTIG_GENRES, ROWS, 0, 0), SARVOLTIG_DONE, 3, 1085, 4, SARVOLTIG_ASCII);
-    answers("record in a list of one", record_in(SARVOLTIG_GENRES, 1, 0), SARVOLTIG_DONE, 1, 7, 0, 0);
-    answers("record in no list", record_in(SARVOLTIG_GENRES, 0, 0), SARVOLTIG_NO_ROW, 1, 0, 0, 0);
-    answers("record past the list", record_in(SARVOLTIG_GENRES, 1, 1), SARVOLTIG_NO_ROW, 1, 0, 0, 0);
-    answers("text past the list", text_in(SARVOLTIG_GENRES, 1, 1, 0), SARVOLTIG_NO_ROW, 1, 0, 0, 0);
-    answers("record in the list, 2^32", record_in(SARVOLTIG_GENRES, ROWS, (uint64_t)1 << 32), SARVOLTIG_NO_ROW, 1, 0, 0, 0);
-    answers("text in the list, 2^64 - 1", text_in(SARVOLTIG_GENRES, ROWS, UINT64_MAX, 0), SARVOLTIG_NO_ROW, 1, 0, 0, 0);
-    answers("text in the list of slot 1", text_in(SARVOLTIG_GENRES, ROWS, 0, 1), SARVOLTIG_NO_SLOT, 1, 0, 0, 0);
-    answers("text in the list of slot 2^32", text_in(SARVOLTIG_GENRES, ROWS, 0, (uint64_t)1 << 32), SARVOLTIG_NO_SLOT, 1, 0, 0,
-            0);
-    answers("text past the list of slot 1", text_in(SARVOLTIG_GENRES, 1, 1, 1), SARVOLTIG_NO_SLOT, 1, 0, 0, 0);
-    answers("record in the list of an unknown table", record_in(9, ROWS, 0), SARVOLTIG_TABLE_TYPE, 1, 0, 0, 0);
-    answers("text in the list of table 2^32 - 1", text_in(UINT32_MAX, ROWS, 0, 1), SARVOLTIG_TABLE_TYPE, 1, 0, 0, 0);
-    answers("record in the list of another table", record_in(SARVOLTIG_KEYS, ROWS, 0), SARVOLTIG_PAGE_HEADER, 1, 2, 0, 0);
-    answers("text in the list of another table", text_in(SARVOLTIG_KEYS, ROWS, 0, 0), SARVOLTIG_PAGE_HEADER, 1, 2, 0, 0);
-    answers("record in a list, with no file",
+    answers("record in a list of one", record_in(SARVOLTIG_GENRES, 1, 0), SARVOLTIG_DONE, 3, 2, 1, 7);
+    refused("record in no list", record_in(SARVOLTIG_GENRES, 0, 0), SARVOLTIG_NO_ROW, 0, 0);
+    refused("record past the list", record_in(SARVOLTIG_GENRES, 1, 1), SARVOLTIG_NO_ROW, 0, 0);
+    refused("text past the list", text_in(SARVOLTIG_GENRES, 1, 1, 0), SARVOLTIG_NO_ROW, 0, 0);
+    refused("record in the list, 2^32", record_in(SARVOLTIG_GENRES, ROWS, (uint64_t)1 << 32), SARVOLTIG_NO_ROW, 0, 0);
+    refused("text in the list, 2^64 - 1", text_in(SARVOLTIG_GENRES, ROWS, UINT64_MAX, 0), SARVOLTIG_NO_ROW, 0, 0);
+    refused("text in the list of slot 1", text_in(SARVOLTIG_GENRES, ROWS, 0, 1), SARVOLTIG_NO_SLOT, 0, 0);
+    refused("text in the list of slot 2^32", text_in(SARVOLTIG_GENRES, ROWS, 0, (uint64_t)1 << 32), SARVOLTIG_NO_SLOT,
+            0, 0);
+    refused("text past the list of slot 1", text_in(SARVOLTIG_GENRES, 1, 1, 1), SARVOLTIG_NO_SLOT, 0, 0);
+    refused("record in the list of an unknown table", record_in(9, ROWS, 0), SARVOLTIG_TABLE_TYPE, 0, 0);
+    refused("text in the list of table 2^32 - 1", text_in(UINT32_MAX, ROWS, 0, 1), SARVOLTIG_TABLE_TYPE, 0, 0);
+    refused("record in the list of another table", record_in(SARVOLTIG_KEYS, ROWS, 0), SARVOLTIG_PAGE_TYPE, 2, 0);
+    refused("text in the list of another table", text_in(SARVOLTIG_KEYS, ROWS, 0, 0), SARVOLTIG_PAGE_TYPE, 2, 0);
+    refused("record in a list, with no file",
             sarvoltig_record_in(0, image, LEN, map, 1, SARVOLTIG_GENRES, list, ROWS, 0, clear(), SARVOLTIG_RESULT),
-            SARVOLTIG_LENGTH, 1, 0, 0, 0);
-    answers("text in a list, with no map",
+            SARVOLTIG_LENGTH, 0, 0);
+    refused("text in a list, with no map",
             sarvoltig_text_in(LEN, image, LEN, map, 0, SARVOLTIG_GENRES, list, ROWS, 0, 0, clear(), SARVOLTIG_RESULT),
-            SARVOLTIG_MAP_SHORT, 1, 0, 0, 0);
+            SARVOLTIG_MAP_SHORT, 0, 0);
 }
 
 static void run_list_results(void)
@@ -276,15 +298,15 @@ static void run_wrong_lists(void)
 
     for (i = 0; i < sizeof wrong / sizeof wrong[0]; i++) {
         list[0] = wrong[i];
-        answers("record at a wrong place", record_in(SARVOLTIG_GENRES, ROWS, 0), SARVOLTIG_NO_ROW, 1, 0, 0, 0);
-        answers("text at a wrong place", text_in(SARVOLTIG_GENRES, ROWS, 0, 0), SARVOLTIG_NO_ROW, 1, 0, 0, 0);
+        refused("record at a wrong place", record_in(SARVOLTIG_GENRES, ROWS, 0), SARVOLTIG_NO_ROW, 0, 0);
+        refused("text at a wrong place", text_in(SARVOLTIG_GENRES, ROWS, 0, 0), SARVOLTIG_NO_ROW, 0, 0);
         expect(list[0] == wrong[i], "a refusal leaves the list that it reads");
     }
     list[1] = 1080;
-    answers("record behind a place on another page", record_in(SARVOLTIG_GENRES, ROWS, 1), SARVOLTIG_DONE, 1, 7, 0, 0);
+    answers("record behind a place on another page", record_in(SARVOLTIG_GENRES, ROWS, 1), SARVOLTIG_DONE, 3, 2, 1, 7);
     list[0] = 1080;
-    answers("record at a repeated place", record_in(SARVOLTIG_GENRES, ROWS, 1), SARVOLTIG_NO_ROW, 1, 0, 0, 0);
-    answers("text at a repeated place", text_in(SARVOLTIG_GENRES, ROWS, 1, 0), SARVOLTIG_NO_ROW, 1, 0, 0, 0);
+    refused("record at a repeated place", record_in(SARVOLTIG_GENRES, ROWS, 1), SARVOLTIG_NO_ROW, 0, 0);
+    refused("text at a repeated place", text_in(SARVOLTIG_GENRES, ROWS, 1, 0), SARVOLTIG_NO_ROW, 0, 0);
     expect(list[0] == 1080 && list[1] == 1080 && list[2] == 0xa5a5a5a5u, "reading from a list leaves the list");
 }
 
@@ -297,9 +319,9 @@ static void run_list_waits(void)
     answers("block 0", deliver(0, file, 512), SARVOLTIG_DONE, 1, 1, 0, 0);
     answers("record in a list with page 2 missing", record_in(SARVOLTIG_GENRES, ROWS, 0), SARVOLTIG_WAITING, 3, 0, 0, 2);
     answers("text in a list with page 2 missing", text_in(SARVOLTIG_GENRES, ROWS, 0, 0), SARVOLTIG_WAITING, 3, 0, 0, 2);
-    answers("text past a list with page 2 missing", text_in(SARVOLTIG_GENRES, 1, 1, 0), SARVOLTIG_NO_ROW, 1, 0, 0, 0);
+    refused("text past a list with page 2 missing", text_in(SARVOLTIG_GENRES, 1, 1, 0), SARVOLTIG_NO_ROW, 0, 0);
     answers("block 2", deliver(2, file + 1024, 512), SARVOLTIG_DONE, 1, 2, 0, 0);
-    answers("record in a list with page 1 missing", record_in(SARVOLTIG_GENRES, ROWS, 0), SARVOLTIG_DONE, 1, 7, 0, 0);
+    answers("record in a list with page 1 missing", record_in(SARVOLTIG_GENRES, ROWS, 0), SARVOLTIG_DONE, 3, 2, 1, 7);
     answers("text in a list with page 1 missing", text_in(SARVOLTIG_GENRES, ROWS, 0, 0), SARVOLTIG_DONE, 3, 1085, 4,
             SARVOLTIG_ASCII);
     expect(map[0] == 5 && list[0] == 1080, "reading from a list leaves map and list, also when it waits");
@@ -337,28 +359,307 @@ static void run_counts(void)
     size_t i;
 
     for (i = 0; i < sizeof counts / sizeof counts[0]; i++) {
-        int good = counts[i].code == SARVOLTIG_DONE;
+        const char *what = counts[i].what;
 
         make_file();
         memcpy(&file[1024 + 0x18], counts[i].bytes, 3);
         memset(&file[1024 + 0x22], (int)i, 2);
         take_in_file();
-        list[0] = good ? 0 : 1080;
-        answers(counts[i].what, rows(SARVOLTIG_GENRES, ROWS), counts[i].code, good ? 2 : 1, good ? 1 : 2, good ? 2 : 0, 0);
-        expect(list[0] == 1080, "the list has the row's place");
-        answers(counts[i].what, record(SARVOLTIG_GENRES, 0), counts[i].code, 1, good ? 7 : 2, 0, 0);
-        answers(counts[i].what, record_in(SARVOLTIG_GENRES, ROWS, 0), counts[i].code, 1, good ? 7 : 2, 0, 0);
+        if (counts[i].code == SARVOLTIG_DONE) {
+            list[0] = 0;
+            answers(what, rows(SARVOLTIG_GENRES, ROWS), SARVOLTIG_DONE, 2, 1, 2, 0);
+            expect(list[0] == 1080, "the list has the row's place");
+            answers(what, record(SARVOLTIG_GENRES, 0), SARVOLTIG_DONE, 3, 2, 1, 7);
+            answers(what, record_in(SARVOLTIG_GENRES, ROWS, 0), SARVOLTIG_DONE, 3, 2, 1, 7);
+        } else {
+            list[0] = 1080;
+            refused(what, rows(SARVOLTIG_GENRES, ROWS), counts[i].code, 2, 0);
+            refused(what, record(SARVOLTIG_GENRES, 0), counts[i].code, 2, 0);
+            refused(what, record_in(SARVOLTIG_GENRES, ROWS, 0), counts[i].code, 2, 0);
+        }
     }
-    make_file();
-    list[0] = 0xa5a5a5a5u;
 }
 
-/* A packet that is refused whole: one value, and image, map and codes as before. */
-static void refuses(const char *what, uint32_t code, uint32_t expected, uint64_t carries, uint64_t word)
+/* Wrong fields of a page's header: what is added to page_index, the type, and page_flags. */
+static const struct {
+    const char *what;
+    uint32_t more;
+    uint32_t type;
+    uint8_t page_flags;
+    uint32_t code;
+} headers[] = {
+    {"another page", 1, SARVOLTIG_GENRES, 0x24, SARVOLTIG_PAGE_NUMBER},
+    {"a page 2^24 behind", 1u << 24, SARVOLTIG_GENRES, 0x24, SARVOLTIG_PAGE_NUMBER},
+    {"another table", 0, SARVOLTIG_KEYS, 0x24, SARVOLTIG_PAGE_TYPE},
+    {"no table", 0, SARVOLTIG_GENRES + (1u << 24), 0x24, SARVOLTIG_PAGE_TYPE},
+    {"another page of another table", 1, SARVOLTIG_KEYS, 0x24, SARVOLTIG_PAGE_NUMBER},
+    {"another page with no rows", 1, SARVOLTIG_GENRES, 0x64, SARVOLTIG_PAGE_NUMBER},
+    {"a page with no rows of another table", 0, SARVOLTIG_KEYS, 0x64, SARVOLTIG_PAGE_TYPE},
+    {"another page with no rows of another table", 1, SARVOLTIG_KEYS, 0x64, SARVOLTIG_PAGE_NUMBER},
+};
+
+/* Case D with such a header, and row counts that are wrong too. */
+static void take_in_header(size_t i, uint32_t page)
+{
+    size_t at = 512 * page;
+
+    make_file();
+    put32(at + 0x04, page + headers[i].more);
+    put32(at + 0x08, headers[i].type);
+    put32(at + 0x18, 2 + (3 << 13));
+    file[at + 0x1b] = headers[i].page_flags;
+    take_in_file();
+    list[0] = 1080;
+}
+
+/* On page 1, which has no rows, and on page 2, which is the only one that reading from the list looks at. */
+static void run_headers(void)
 {
     size_t i;
 
-    answers(what, code, expected, 1, carries, 0, 0);
+    for (i = 0; i < sizeof headers / sizeof headers[0]; i++) {
+        const char *what = headers[i].what;
+        uint32_t page;
+
+        for (page = 1; page <= 2; page++) {
+            take_in_header(i, page);
+            refused(what, rows(SARVOLTIG_GENRES, ROWS), headers[i].code, page, 0);
+            refused(what, record(SARVOLTIG_GENRES, 0), headers[i].code, page, 0);
+            refused(what, text(SARVOLTIG_GENRES, 0, 0), headers[i].code, page, 0);
+            if (page == 1) {
+                answers(what, record_in(SARVOLTIG_GENRES, 1, 0), SARVOLTIG_DONE, 3, 2, 1, 7);
+                answers(what, text_in(SARVOLTIG_GENRES, 1, 0, 0), SARVOLTIG_DONE, 3, 1085, 4, SARVOLTIG_ASCII);
+            } else {
+                refused(what, record_in(SARVOLTIG_GENRES, 1, 0), headers[i].code, 2, 0);
+                refused(what, text_in(SARVOLTIG_GENRES, 1, 0, 0), headers[i].code, 2, 0);
+            }
+        }
+    }
+}
+
+/* A number of a record: its place in the result, its offset in the row, and itself. */
+typedef struct {
+    size_t place;
+    size_t offset;
+    uint32_t number;
+} Number;
+
+/* Rows of one table, and the numbers of their records, by offset. */
+typedef struct {
+    const char *what;
+    uint32_t table;
+    size_t empty; /* the offset of an empty string */
+    size_t count;
+    Number numbers[SARVOLTIG_RESULT];
+} Record;
+
+static const Record records[] = {
+    {"a genre", SARVOLTIG_GENRES, 0x04, 1, {{SARVOLTIG_ROW_NUMBERS, 0x00, 0xf1020304}}},
+    {"an album", SARVOLTIG_ALBUMS, 0x00, 2,
+     {{SARVOLTIG_ROW_NUMBERS, 0x08, 0xf1000008}, {SARVOLTIG_ROW_NUMBERS + 1, 0x0c, 0xf100000c}}},
+    {"a color", SARVOLTIG_COLORS, 0x08, 1, {{SARVOLTIG_ROW_NUMBERS, 0x05, 0xf105}}},
+    {"a playlist", SARVOLTIG_PLAYLIST_TREE, 0x14, 4,
+     {{SARVOLTIG_NODE_PARENT_ID, 0x00, 0xf1000000},
+      {SARVOLTIG_NODE_SORT_ORDER, 0x08, 0xf1000008},
+      {SARVOLTIG_NODE_ID, 0x0c, 0xf100000c},
+      {SARVOLTIG_NODE_RAW_IS_FOLDER, 0x10, 0xf1000010}}},
+    {"an entry of a playlist", SARVOLTIG_PLAYLIST_ENTRIES, 0x0c, 3,
+     {{SARVOLTIG_ENTRY_INDEX, 0x00, 0xf1000000},
+      {SARVOLTIG_ENTRY_TRACK_ID, 0x04, 0xf1000004},
+      {SARVOLTIG_ENTRY_PLAYLIST_ID, 0x08, 0xf1000008}}},
+    {"a track", SARVOLTIG_TRACKS, 0x00, 22,
+     {{SARVOLTIG_TRACK_SAMPLE_RATE, 0x08, 0xf1000008},
+      {SARVOLTIG_TRACK_COMPOSER_ID, 0x0c, 0xf100000c},
+      {SARVOLTIG_TRACK_FILE_SIZE, 0x10, 0xf1000010},
+      {SARVOLTIG_TRACK_ARTWORK_ID, 0x1c, 0xf100001c},
+      {SARVOLTIG_TRACK_KEY_ID, 0x20, 0xf1000020},
+      {SARVOLTIG_TRACK_ORIGINAL_ARTIST_ID, 0x24, 0xf1000024},
+      {SARVOLTIG_TRACK_LABEL_ID, 0x28, 0xf1000028},
+      {SARVOLTIG_TRACK_REMIXER_ID, 0x2c, 0xf100002c},
+      {SARVOLTIG_TRACK_BITRATE, 0x30, 0xf1000030},
+      {SARVOLTIG_TRACK_TRACK_NUMBER, 0x34, 0xf1000034},
+      {SARVOLTIG_TRACK_TEMPO, 0x38, 0xf1000038},
+      {SARVOLTIG_TRACK_GENRE_ID, 0x3c, 0xf100003c},
+      {SARVOLTIG_TRACK_ALBUM_ID, 0x40, 0xf1000040},
+      {SARVOLTIG_TRACK_ARTIST_ID, 0x44, 0xf1000044},
+      {SARVOLTIG_TRACK_ID, 0x48, 0xf1000048},
+      {SARVOLTIG_TRACK_DISC_NUMBER, 0x4c, 0xf14c},
+      {SARVOLTIG_TRACK_PLAY_COUNT, 0x4e, 0xf14e},
+      {SARVOLTIG_TRACK_YEAR, 0x50, 0xf150},
+      {SARVOLTIG_TRACK_SAMPLE_DEPTH, 0x52, 0xf152},
+      {SARVOLTIG_TRACK_DURATION, 0x54, 0xf154},
+      {SARVOLTIG_TRACK_COLOR_ID, 0x58, 0x58},
+      {SARVOLTIG_TRACK_RATING, 0x59, 0xf1}}},
+};
+
+/* Page and index entry of the rows of an export of one table. */
+static const uint64_t named[3][2] = {{1, 0}, {2, 1}, {2, 17}};
+
+/* Where these rows start, and where the offsets of the last two stand. */
+enum { FIRST = 512 + 0x28, SECOND = 1024 + 0x28, OFFSET_1 = 1536 - 8, OFFSET_17 = 1536 - 36 - 8 };
+
+/* An export of one table: page 1 has one index entry, page 2 has 18, of which 1 and 17 are present and name one row. */
+static void make_rows(const Record *r)
+{
+    size_t i;
+
+    memset(file, 0, sizeof file);
+    put32(0x04, 512);
+    put32(0x08, 1);
+    put32(0x1c, r->table);
+    put32(0x24, 1);
+    put32(0x28, 2);
+    put32(512 + 0x04, 1);
+    put32(512 + 0x08, r->table);
+    put32(512 + 0x0c, 2);
+    put32(512 + 0x18, 1 + (1 << 13));
+    file[1024 - 4] = 0x01;
+    put32(1024 + 0x04, 2);
+    put32(1024 + 0x08, r->table);
+    put32(1024 + 0x18, 18 + (2 << 13));
+    file[1536 - 4] = 0x02;
+    file[1536 - 36 - 4] = 0x02;
+    for (i = 0; i < r->count; i++) {
+        put32(FIRST + r->numbers[i].offset, r->numbers[i].number);
+        put32(SECOND + r->numbers[i].offset, r->numbers[i].number);
+    }
+    file[FIRST + r->empty] = 0x03;
+    file[SECOND + r->empty] = 0x03;
+}
+
+/* Record k by the question and from the list, into results of every length. */
+static void has_record(const Record *r, uint64_t k)
+{
+    uint64_t values[SARVOLTIG_RESULT] = {0};
+    size_t count = 2 + r->count;
+    size_t i;
+
+    values[0] = named[k][0];
+    values[1] = named[k][1];
+    for (i = 0; i < r->count; i++) {
+        values[r->numbers[i].place] = r->numbers[i].number;
+    }
+    for (i = 0; i <= SARVOLTIG_RESULT; i++) {
+        size_t taken = i < count ? i : count;
+
+        has_values(r->what, sarvoltig_record(LEN, image, LEN, map, 1, r->table, k, clear(), i), SARVOLTIG_DONE, taken,
+                   values);
+        has_values(r->what, sarvoltig_record_in(LEN, image, LEN, map, 1, r->table, list, ROWS, k, clear(), i),
+                   SARVOLTIG_DONE, taken, values);
+    }
+}
+
+/* A row that two entries name is found twice, each time with its own entry. */
+static void run_records(void)
+{
+    size_t i;
+    uint64_t k;
+
+    for (i = 0; i < sizeof records / sizeof records[0]; i++) {
+        const Record *r = &records[i];
+
+        make_rows(r);
+        take_in_file();
+        answers(r->what, rows(r->table, ROWS), SARVOLTIG_DONE, 2, 3, 2, 0);
+        expect(list[0] == FIRST && list[1] == SECOND && list[2] == SECOND, "two entries name one row");
+        for (k = 0; k < 3; k++) {
+            has_record(r, k);
+        }
+        refused(r->what, record(r->table, 3), SARVOLTIG_NO_ROW, 0, 0);
+    }
+}
+
+/*
+ * Genres with other offsets for entries 1 and 17 of page 2, and the code of each. At 0 is a row, at 16 one whose string
+ * is malformed; at 424 the row fits before the index and its string does not; from 425 on no row fits.
+ */
+static const struct {
+    const char *what;
+    uint32_t offsets[2];
+    uint32_t codes[2];
+} row_faults[] = {
+    {"entry 1 does not fit", {425, 0}, {SARVOLTIG_ROW_SHORT, SARVOLTIG_DONE}},
+    {"entry 17 does not fit", {0, 425}, {SARVOLTIG_DONE, SARVOLTIG_ROW_SHORT}},
+    {"a malformed string of entry 1", {16, 0}, {SARVOLTIG_TEXT_FAULT, SARVOLTIG_DONE}},
+    {"a malformed string of entry 17", {0, 16}, {SARVOLTIG_DONE, SARVOLTIG_TEXT_FAULT}},
+    {"a string of entry 17 outside", {0, 424}, {SARVOLTIG_DONE, SARVOLTIG_TEXT_FAULT}},
+    {"neither fits", {425, 470}, {SARVOLTIG_ROW_SHORT, SARVOLTIG_ROW_SHORT}},
+    {"a malformed string, then a row that does not fit", {16, 425}, {SARVOLTIG_TEXT_FAULT, SARVOLTIG_ROW_SHORT}},
+    {"a row that does not fit, then a malformed string", {425, 16}, {SARVOLTIG_ROW_SHORT, SARVOLTIG_TEXT_FAULT}},
+};
+
+static void take_in_row_fault(size_t i)
+{
+    make_rows(&records[0]);
+    put16(OFFSET_1, row_faults[i].offsets[0]);
+    put16(OFFSET_17, row_faults[i].offsets[1]);
+    take_in_file();
+    list[0] = FIRST;
+    list[1] = SECOND + row_faults[i].offsets[0];
+    list[2] = SECOND + row_faults[i].offsets[1];
+}
+
+/* The questions meet the first fault, also where the row asked for is right. From the list each row has its own. */
+static void run_row_faults(void)
+{
+    size_t i;
+    size_t row;
+
+    for (i = 0; i < sizeof row_faults / sizeof row_faults[0]; i++) {
+        const char *what = row_faults[i].what;
+        const uint32_t *code = row_faults[i].codes;
+        size_t first = code[0] != SARVOLTIG_DONE ? 0 : 1;
+
+        take_in_row_fault(i);
+        refused(what, rows(SARVOLTIG_GENRES, ROWS), code[first], 2, named[1 + first][1]);
+        refused(what, record(SARVOLTIG_GENRES, 0), code[first], 2, named[1 + first][1]);
+        refused(what, text(SARVOLTIG_GENRES, 0, 0), code[first], 2, named[1 + first][1]);
+        answers(what, record_in(SARVOLTIG_GENRES, 3, 0), SARVOLTIG_DONE, 3, 1, 0, 0xf1020304);
+        for (row = 0; row < 2; row++) {
+            uint64_t entry = named[1 + row][1];
+
+            if (code[row] == SARVOLTIG_DONE) {
+                answers(what, record_in(SARVOLTIG_GENRES, 3, 1 + row), SARVOLTIG_DONE, 3, 2, entry, 0xf1020304);
+            } else {
+                refused(what, record_in(SARVOLTIG_GENRES, 3, 1 + row), code[row], 2, entry);
+                refused(what, text_in(SARVOLTIG_GENRES, 3, 1 + row, 0), code[row], 2, entry);
+            }
+        }
+    }
+}
+
+/* A refusal into results of every length. */
+static void run_short_refusals(void)
+{
+    static const uint64_t values[2] = {2, 17};
+    const uint32_t table = SARVOLTIG_GENRES;
+    size_t i;
+
+    take_in_row_fault(1);
+    for (i = 0; i <= SARVOLTIG_RESULT; i++) {
+        size_t taken = i < 2 ? i : 2;
+
+        has_values("refused rows", sarvoltig_rows(LEN, image, LEN, map, 1, table, list, ROWS, clear(), i),
+                   SARVOLTIG_ROW_SHORT, taken, values);
+        has_values("refused record", sarvoltig_record(LEN, image, LEN, map, 1, table, 0, clear(), i),
+                   SARVOLTIG_ROW_SHORT, taken, values);
+        has_values("refused text", sarvoltig_text(LEN, image, LEN, map, 1, table, 0, 0, clear(), i),
+                   SARVOLTIG_ROW_SHORT, taken, values);
+        has_values("refused record in a list",
+                   sarvoltig_record_in(LEN, image, LEN, map, 1, table, list, ROWS, 2, clear(), i), SARVOLTIG_ROW_SHORT,
+                   taken, values);
+        has_values("refused text in a list",
+                   sarvoltig_text_in(LEN, image, LEN, map, 1, table, list, ROWS, 2, 0, clear(), i), SARVOLTIG_ROW_SHORT,
+                   taken, values);
+    }
+}
+
+/* A packet that is refused whole: image, map and codes are as before. */
+static void refused_whole(const char *what, uint32_t code, uint32_t expected, uint64_t value, uint64_t word)
+{
+    size_t i;
+
+    refused(what, code, expected, value, 0);
     has_codes(what, 0, NULL);
     expect(map[0] == word, "a refused packet leaves the map");
     for (i = 0; i < sizeof image; i++) {
@@ -377,27 +678,29 @@ static void run_refused_packets(void)
     size_t i;
 
     fill();
-    refuses("packet before any opening",
-            sarvoltig_packet(0, image, 0, map, 0, two.blocks, 2, pieces, 1, codes, 0, clear(), SARVOLTIG_RESULT),
-            SARVOLTIG_LENGTH, 0, filled);
-    refuses("packet with a short image",
-            sarvoltig_packet(LEN, image, LEN - 1, map, 0, two.blocks, 2, pieces, 1, codes, 0, clear(), SARVOLTIG_RESULT),
-            SARVOLTIG_IMAGE_SHORT, 0, filled);
-    refuses("packet with no map",
-            sarvoltig_packet(LEN, image, LEN, map, 0, two.blocks, 2, pieces, 1, codes, 0, clear(), SARVOLTIG_RESULT),
-            SARVOLTIG_MAP_SHORT, 0, filled);
+    refused_whole("packet before any opening",
+                  sarvoltig_packet(0, image, 0, map, 0, two.blocks, 2, pieces, 1, codes, 0, clear(), SARVOLTIG_RESULT),
+                  SARVOLTIG_LENGTH, 0, filled);
+    refused_whole("packet with a short image",
+                  sarvoltig_packet(LEN, image, LEN - 1, map, 0, two.blocks, 2, pieces, 1, codes, 0, clear(),
+                                   SARVOLTIG_RESULT),
+                  SARVOLTIG_IMAGE_SHORT, 0, filled);
+    refused_whole("packet with no map",
+                  sarvoltig_packet(LEN, image, LEN, map, 0, two.blocks, 2, pieces, 1, codes, 0, clear(),
+                                   SARVOLTIG_RESULT),
+                  SARVOLTIG_MAP_SHORT, 0, filled);
     map[0] = 8;
-    refuses("packet with a bit behind the last block", packet(&two, 1, 0), SARVOLTIG_MAP_SPARE, 0, 8);
-    refuses("no packet with a bit behind the last block", packet(&none, 0, 0), SARVOLTIG_MAP_SPARE, 0, 8);
+    refused_whole("packet with a bit behind the last block", packet(&two, 1, 0), SARVOLTIG_MAP_SPARE, 0, 8);
+    refused_whole("no packet with a bit behind the last block", packet(&none, 0, 0), SARVOLTIG_MAP_SPARE, 0, 8);
     map[0] = 0;
     for (i = 0; i < sizeof wrong / sizeof wrong[0]; i++) {
-        refuses("packet of a wrong size", packet(&two, wrong[i], PACKET), SARVOLTIG_PIECE_SIZE, 0, 0);
-        refuses("packet of a wrong size with no codes", packet(&two, wrong[i], 0), SARVOLTIG_PIECE_SIZE, 0, 0);
+        refused_whole("packet of a wrong size", packet(&two, wrong[i], PACKET), SARVOLTIG_PIECE_SIZE, 0, 0);
+        refused_whole("packet of a wrong size with no codes", packet(&two, wrong[i], 0), SARVOLTIG_PIECE_SIZE, 0, 0);
     }
-    refuses("bytes with no block", packet(&none, 1, PACKET), SARVOLTIG_PIECE_SIZE, 0, 0);
-    refuses("a piece with no block", packet(&none, 512, 0), SARVOLTIG_PIECE_SIZE, 0, 0);
-    refuses("packet with one code", packet(&two, 1024, 1), SARVOLTIG_LIST_SHORT, 2, 0);
-    refuses("packet with no codes", packet(&two, 1024, 0), SARVOLTIG_LIST_SHORT, 2, 0);
+    refused_whole("bytes with no block", packet(&none, 1, PACKET), SARVOLTIG_PIECE_SIZE, 0, 0);
+    refused_whole("a piece with no block", packet(&none, 512, 0), SARVOLTIG_PIECE_SIZE, 0, 0);
+    refused_whole("packet with one code", packet(&two, 1024, 1), SARVOLTIG_LIST_SHORT, 2, 0);
+    refused_whole("packet with no codes", packet(&two, 1024, 0), SARVOLTIG_LIST_SHORT, 2, 0);
 }
 
 /* Every code of a block, also for a number that comes again in the packet. */
@@ -430,6 +733,9 @@ static void run_packets(void)
     answers("refused packet with no result",
             sarvoltig_packet(LEN, image, LEN, map, 1, last.blocks, 1, pieces_of(&last), 512, codes, 0, clear(), 0),
             SARVOLTIG_LIST_SHORT, 0, 0, 0, 0);
+    answers("refused packet with a result of one",
+            sarvoltig_packet(LEN, image, LEN, map, 1, last.blocks, 1, pieces_of(&last), 512, codes, 0, clear(), 1),
+            SARVOLTIG_LIST_SHORT, 1, 1, 0, 0);
     has_codes("refused packet with no result", 1, &same);
     expect(map[0] == 7 && memcmp(image, file, LEN) == 0, "the image is the file, in packets");
     answers("rows of a file from packets", rows(SARVOLTIG_GENRES, ROWS), SARVOLTIG_DONE, 2, 1, 2, 0);
@@ -489,15 +795,18 @@ static void take_in_track(void)
     list[0] = TRACK;
 }
 
-/* What a slot answers, by the question and from the list; a refusal carries page 1. */
+/* What a slot answers, by the question and from the list; a refusal is about page 1 and its index entry 0. */
 static void answers_text(const char *what, uint64_t slot, Text expected)
 {
-    int found = expected.code == SARVOLTIG_DONE;
-    uint64_t first = found ? STRING_PLACE + expected.offset : 1;
-    size_t count = found ? 3 : 1;
+    const uint64_t values[3] = {STRING_PLACE + expected.offset, expected.length, expected.encoding};
 
-    answers(what, text(SARVOLTIG_TRACKS, 0, slot), expected.code, count, first, expected.length, expected.encoding);
-    answers(what, text_in(SARVOLTIG_TRACKS, 1, 0, slot), expected.code, count, first, expected.length, expected.encoding);
+    if (expected.code == SARVOLTIG_DONE) {
+        has_values(what, text(SARVOLTIG_TRACKS, 0, slot), SARVOLTIG_DONE, 3, values);
+        has_values(what, text_in(SARVOLTIG_TRACKS, 1, 0, slot), SARVOLTIG_DONE, 3, values);
+    } else {
+        refused(what, text(SARVOLTIG_TRACKS, 0, slot), expected.code, 1, 0);
+        refused(what, text_in(SARVOLTIG_TRACKS, 1, 0, slot), expected.code, 1, 0);
+    }
 }
 
 /* Each string in slot 0 alone, in slot 1 alone, and in all slots, where it has to be right in slot 0 and in the others. */
@@ -571,16 +880,17 @@ static void run_beats(void)
     expect(result[SARVOLTIG_BEAT_BAR_POSITION] == 2 && result[SARVOLTIG_BEAT_TEMPO] == 65534 &&
                result[SARVOLTIG_BEAT_TIME] == UINT32_MAX - 2,
            "the places of a beat's numbers");
-    answers("beat 3", beat(ANLZ_LEN, 3), SARVOLTIG_NO_ROW, 1, 0, 0, 0);
-    answers("beat 2^32", beat(ANLZ_LEN, (uint64_t)1 << 32), SARVOLTIG_NO_ROW, 1, 0, 0, 0);
-    answers("beat 2^61", beat(ANLZ_LEN, (uint64_t)1 << 61), SARVOLTIG_NO_ROW, 1, 0, 0, 0);
-    answers("beat 2^64 - 1", beat(ANLZ_LEN, UINT64_MAX), SARVOLTIG_NO_ROW, 1, 0, 0, 0);
+    refused("beat 3", beat(ANLZ_LEN, 3), SARVOLTIG_NO_ROW, 0, 0);
+    refused("beat 2^32", beat(ANLZ_LEN, (uint64_t)1 << 32), SARVOLTIG_NO_ROW, 0, 0);
+    refused("beat 2^61", beat(ANLZ_LEN, (uint64_t)1 << 61), SARVOLTIG_NO_ROW, 0, 0);
+    refused("beat 2^64 - 1", beat(ANLZ_LEN, UINT64_MAX), SARVOLTIG_NO_ROW, 0, 0);
     answers("number of beats with no result", sarvoltig_beats(anlz, ANLZ_LEN, clear(), 0), SARVOLTIG_DONE, 0, 0, 0, 0);
     answers("number of beats with a result of one", sarvoltig_beats(anlz, ANLZ_LEN, clear(), 1), SARVOLTIG_DONE, 1, 3, 0, 0);
     answers("beat with no result", sarvoltig_beat(anlz, ANLZ_LEN, 1, clear(), 0), SARVOLTIG_DONE, 0, 0, 0, 0);
     answers("beat with a result of one", sarvoltig_beat(anlz, ANLZ_LEN, 1, clear(), 1), SARVOLTIG_DONE, 1, 1, 0, 0);
     answers("beat with a result of two", sarvoltig_beat(anlz, ANLZ_LEN, 1, clear(), 2), SARVOLTIG_DONE, 2, 1, 12500, 0);
     answers("beat 3 with no result", sarvoltig_beat(anlz, ANLZ_LEN, 3, clear(), 0), SARVOLTIG_NO_ROW, 0, 0, 0, 0);
+    answers("beat 3 with a result of one", sarvoltig_beat(anlz, ANLZ_LEN, 3, clear(), 1), SARVOLTIG_NO_ROW, 1, 0, 0, 0);
     expect(memcmp(anlz, before, ANLZ_LEN) == 0, "a question leaves the ANLZ file");
 }
 
@@ -592,15 +902,15 @@ static void run_short_anlz(void)
     put_envelope(GRID, "PQTZ", 12, BEATS - GRID);
     anlz[GRID + 0x17] = 0;
     answers("number of beats of an empty grid", beats(BEATS), SARVOLTIG_DONE, 1, 0, 0, 0);
-    answers("beat 0 of an empty grid", beat(BEATS, 0), SARVOLTIG_NO_ROW, 1, 0, 0, 0);
+    refused("beat 0 of an empty grid", beat(BEATS, 0), SARVOLTIG_NO_ROW, 0, 0);
     put_envelope(0, "PMAI", UNKNOWN, GRID + 12);
     put_envelope(GRID, "PQTZ", 12, 12);
-    answers("number of beats of a grid that is an envelope", beats(GRID + 12), SARVOLTIG_GRID_LENGTH, 1, 0, 0, 0);
+    refused("number of beats of a grid that is an envelope", beats(GRID + 12), SARVOLTIG_GRID_LENGTH, 0, 0);
     put_envelope(0, "PMAI", 12, 12);
-    answers("number of beats of a header alone", beats(12), SARVOLTIG_NO_GRID, 1, 0, 0, 0);
-    answers("beat 0 of a header alone", beat(12, 0), SARVOLTIG_NO_GRID, 1, 0, 0, 0);
-    answers("number of beats of no file", beats(0), SARVOLTIG_ANLZ_HEADER, 1, 0, 0, 0);
-    answers("beat 0 of no file", beat(0, 0), SARVOLTIG_ANLZ_HEADER, 1, 0, 0, 0);
+    refused("number of beats of a header alone", beats(12), SARVOLTIG_NO_GRID, 0, 0);
+    refused("beat 0 of a header alone", beat(12, 0), SARVOLTIG_NO_GRID, 0, 0);
+    refused("number of beats of no file", beats(0), SARVOLTIG_ANLZ_HEADER, 0, 0);
+    refused("beat 0 of no file", beat(0, 0), SARVOLTIG_ANLZ_HEADER, 0, 0);
 }
 
 /* One byte of the ANLZ file that is written over, and the refusal of what is left. In the order of the refusals. */
@@ -633,9 +943,9 @@ static const struct {
 static void run_damage(size_t i)
 {
     anlz[damages[i].at] = damages[i].byte;
-    answers(damages[i].what, beats(ANLZ_LEN), damages[i].refusal, 1, 0, 0, 0);
-    answers(damages[i].what, beat(ANLZ_LEN, 1), damages[i].refusal, 1, 0, 0, 0);
-    answers(damages[i].what, beat(ANLZ_LEN, UINT64_MAX), damages[i].refusal, 1, 0, 0, 0);
+    refused(damages[i].what, beats(ANLZ_LEN), damages[i].refusal, 0, 0);
+    refused(damages[i].what, beat(ANLZ_LEN, 1), damages[i].refusal, 0, 0);
+    refused(damages[i].what, beat(ANLZ_LEN, UINT64_MAX), damages[i].refusal, 0, 0);
     answers(damages[i].what, sarvoltig_beats(anlz, ANLZ_LEN, clear(), 0), damages[i].refusal, 0, 0, 0, 0);
 }
 
@@ -654,8 +964,8 @@ static void run_damages(void)
     }
     make_anlz();
     for (i = 0; i < ANLZ_LEN; i++) {
-        answers("a cut file", beats(i), SARVOLTIG_ANLZ_HEADER, 1, 0, 0, 0);
-        answers("a beat of a cut file", beat(i, 0), SARVOLTIG_ANLZ_HEADER, 1, 0, 0, 0);
+        refused("a cut file", beats(i), SARVOLTIG_ANLZ_HEADER, 0, 0);
+        refused("a beat of a cut file", beat(i, 0), SARVOLTIG_ANLZ_HEADER, 0, 0);
     }
 }
 
@@ -674,6 +984,10 @@ int main(void)
     run_refused_packets();
     run_packets();
     run_counts();
+    run_headers();
+    run_records();
+    run_row_faults();
+    run_short_refusals();
     run_codes();
     run_beats();
     run_short_anlz();

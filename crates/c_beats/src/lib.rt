@@ -9,11 +9,11 @@ use beat_grid::BeatReply;
 use beat_grid::BeatsReply;
 use c_reply::Code;
 
-// The reply to a refusal: its number, and 0.
+// The reply to a refusal: its number, and 0 for the value and the entry.
 fn refuse(refusal: AnlzRefusal, result: &mut [u64]) -> u32
-    ensures { λ r. ⌜ Replied (reply (anlzNumber refusal) (0 ∷ [])) r (now (result .entry)) (now (result .exit)) ⌝ }
+    ensures { λ r. ⌜ Replied (reply (anlzNumber refusal) (0 ∷ 0 ∷ [])) r (now (result .entry)) (now (result .exit)) ⌝ }
 {
-    c_reply::put(refusal.number(), &[0], result)
+    c_reply::put(refusal.number(), &[0, 0], result)
 }
 
 // The reply with the number of beats.

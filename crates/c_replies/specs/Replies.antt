@@ -3,11 +3,11 @@ use mathlib.Core.List.{List, [], _∷_}
 use Prim.Native.Nat.{ℕ}
 use Rattle.text.specs.declared.Encoding.{Encoding}
 use Rattle.text.specs.declared.Encoding.the-variants.{Ascii, Utf16}
-use Rattle.row.specs.Record.{RowRecord}
 use Rattle.intake.specs.Open.{OpenedFile, opened}
 use Rattle.intake.specs.Deliver.{Taken, taken, new, same}
 use Rattle.chain.specs.Walk.{Progress, full, waiting}
 use Rattle.chain.specs.Found as row
+use Rattle.export.specs.Record.{RecordOn}
 use Rattle.export.specs.Text.{TextPlace}
 use Rattle.c_reply.specs.Code as code
 use Rattle.c_reply.specs.Reply.{Reply, reply}
@@ -35,8 +35,12 @@ abbrev pub foundReply : {A : Type 0} (values : A → List ℕ) (answer : row.Fou
 foundReply values (row.found x) = reply code.done (values x)
 foundReply values (row.waiting page rows pages) = waitReply page rows pages
 
-abbrev pub recordReply : row.Found RowRecord → Reply
-recordReply answer = foundReply (λ (r : RowRecord). r .numbers) answer
+-- page and index entry stand first in the record of every table
+abbrev pub recordValues : RecordOn → List ℕ
+recordValues r = r .page ∷ r .entry ∷ r .content .numbers
+
+abbrev pub recordReply : row.Found RecordOn → Reply
+recordReply answer = foundReply recordValues answer
 
 abbrev pub encodingNumber : Encoding → ℕ
 encodingNumber Ascii = 0

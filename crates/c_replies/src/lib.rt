@@ -15,6 +15,7 @@ ghost use Rattle.c_replies.specs.Replies.{openReply, deliverReply, packe
 use c_reply::Code;
 use chain::Walked;
 use export::RecordReply;
+use export::RowRecord;
 use export::TextReply;
 use intake::Delivered;
 use intake::Opened;
@@ -24,12 +25,13 @@ use row::Record;
 use row::Track;
 use text::Encoding;
 
-// The reply to a refusal: its number, and what it carries.
+// The reply to a refusal: its number, and the value and the entry that it carries.
 fn refuse(refusal: Refusal, result: &mut [u64]) -> u32
-    ensures { λ r. ⌜ Replied (reply (faultOf refusal .number) (faultOf refusal .carries ∷ [])) r (now (result .entry)) (now (result .exit)) ⌝ }
+    ensures { λ r. ⌜ Replied (reply (faultOf refusal .number) (faultOf refusal .value ∷ faultOf refusal .entry ∷ [])) r
+        (now (result .entry)) (now (result .exit)) ⌝ }
 {
     let fault = refusal.fault();
-    c_reply::put(fault.number, &[fault.carries], result)
+    c_reply::put(fault.number, &[fault.value, fault.entry as u64], result)
 }
 
 // The reply of an answer that waits for a page.
@@ -161,12 +163,25 @@ fn put_record(record: Record, result: &mut [u64]) -> u32
     }
 }
 
-// The reply with a record.
+// The reply with a record: page and entry of its row, and behind them its numbers.
+fn put_row(found: RowRecord, result: &mut [u64]) -> u32
+    ensures { λ r. ⌜ Replied (reply done (found .page ∷ found .«entry» ∷ recordOf (found .«record») .numbers)) r
+        (now (result .entry)) (now (result .exit)) ⌝ }
+{
+    let record = found.record;
+    c_reply::put(Code::DONE, &[found.page as u64, found.entry as u64], result);
+    if result.len() < 2 {
+        return Code::DONE;
+    }
+    put_record(record, &mut result[2..])
+}
+
+// The answer to a question for a record.
 pub fn reply_record(answer: RecordReply, result: &mut [u64]) -> u32
     ensures { λ r. ⌜ Replied (replyTo recordReply (recordReplyOf answer)) r (now (result .entry)) (now (result .exit)) ⌝ }
 {
     match answer {
-        RecordReply::Found(found) => put_record(found, result),
+        RecordReply::Found(found) => put_row(found, result),
         RecordReply::Waiting { page, rows, pages } => wait(page, rows, pages, result),
         RecordReply::Refused(refusal) => refuse(refusal, result),
     }

@@ -15,7 +15,7 @@ reply code values = record { code = code; values = values }
 -- the reply to an answer; a refusal gives its number and what it carries
 abbrev pub replyTo : {A : Type 0} (given-reply : A → Reply) (answer : Answer A) → Reply
 replyTo given-reply (given x) = given-reply x
-replyTo given-reply (refused fault) = reply (fault .number) (fault .carries ∷ [])
+replyTo given-reply (refused fault) = reply (fault .number) (fault .value ∷ fault .entry ∷ [])
 
 -- a call returned the code of this reply, and left its values at the front of the result
 abbrev pub Replied : (answer : Reply) (code : ℕ) (before after : List ℕ) → Type 0

@@ -5,13 +5,14 @@ use mathlib.Core.List.{List, [], _∷_}
 use mathlib.Core.Logic.{_⊎_, inl, inr, ⊎-elim}
 use Prim.Native.Nat.{ℕ, zero, suc, _≤_}
 use native.Mathlib.Omega.{arith}
-use Rattle.lists.specs.Alias.{Places}
 use Rattle.refusal.specs.declared.Fault.{Fault}
 use Rattle.refusal.specs.Fault.{fault}
 use Rattle.refusal.specs.Answer.{Answer, given, refused}
 use Rattle.format.specs.Place.{linkable}
+use Rattle.page.specs.Found.{Rows}
 use Rattle.chain.specs.Walk.{Pages, Walk, full, waiting, inFront, walk, walkFrom}
 use Rattle.lists.proofs.Choice.{cond-holds}
+use Rattle.page.proofs.PageAnswer.{PageFault}
 use Rattle.chain.proofs.WalkStep.{readThen, behind, step-holds}
 
 -- a fault of the chain that starts at first
@@ -25,7 +26,7 @@ pub data ChainFault (pages : Pages) (first : ℕ) : Fault → Type 0 where
 
 module _ (pages : Pages) (first : ℕ) where
   -- a refusal of the walk is such a fault
-  abbrev FaultBy : Walk Places → Type 0
+  abbrev FaultBy : Walk Rows → Type 0
   FaultBy (given (full rows n)) = Unit {0}
   FaultBy (given (waiting page rows n)) = Unit {0}
   FaultBy (refused f) = ChainFault pages first f
@@ -39,13 +40,13 @@ module _ (pages : Pages) (first : ℕ) where
   outside holder page l o =
       ⊎-elim (λ d. rw (d .0) (firstOutside (rw (d .1) at o))) (λ d. nextOutside holder (d .0) (d .1) (rw (d .2) at o)) l
 
-  fault-front : (rows : List ℕ) (w : Walk Places) → FaultBy w → FaultBy (inFront rows w)
+  fault-front : (rows : Rows) (w : Walk Rows) → FaultBy w → FaultBy (inFront rows w)
   fault-front rows (given (full rest n)) p = tt
   fault-front rows (given (waiting page rest n)) p = tt
   fault-front rows (refused f) p = p
 
-  fault-read : (page : ℕ) (r : Answer Places) → pages .read page ≡ r → linkable (pages .pageCount) page ≡ true → pages .held page ≡ true
-      → (w : Walk Places) → FaultBy w → FaultBy (readThen r w)
+  fault-read : (page : ℕ) (r : Answer Rows) → pages .read page ≡ r → linkable (pages .pageCount) page ≡ true → pages .held page ≡ true
+      → (w : Walk Rows) → FaultBy w → FaultBy (readThen r w)
   fault-read page (given rows) e i h w p = fault-front rows w p
   fault-read page (refused f) e i h w p = pageFault page i h e
 
@@ -67,19 +68,22 @@ module _ (pages : Pages) (first : ℕ) where
 
 -- its number and what it carries: 0, or a page of the file
 pub record Numbered (count : ℕ) (f : Fault) : Type 0 where
-  pub low : 11 ≤ f .number
-  pub high : f .number ≤ 16
-  pub carries : (f .carries ≡ 0) ⊎ (linkable count (f .carries) ≡ true)
-  pub loopCarries : f .number ≡ 16 → f .carries ≡ 0
+  pub range : ((11 ≤ f .number) × (f .number ≤ 16)) ⊎ (f .number ≡ 25)
+  pub carries : (f .value ≡ 0) ⊎ (linkable count (f .value) ≡ true)
+  pub loopCarries : f .number ≡ 16 → f .value ≡ 0
 
--- where a page's faults are 12 to 15 and carry the page
+-- where a page's faults are 12 to 15 and 25 and carry the page
 pub fault-numbered : (pages : Pages) (first : ℕ)
-    → ((page : ℕ) (f : Fault) → pages .read page ≡ refused f → (12 ≤ f .number) × (f .number ≤ 15) × (f .carries ≡ page))
+    → ((page : ℕ) (f : Fault) → pages .read page ≡ refused f → PageFault page f)
     → (f : Fault) → ChainFault pages first f → Numbered (pages .pageCount) f
-fault-numbered pages first reads f (firstOutside o) = record { low = omega arith; high = omega arith; carries = inl refl; loopCarries = λ e. refl }
+fault-numbered pages first reads f (firstOutside o) = record { range = inl (omega arith, omega arith); carries = inl refl; loopCarries = λ e. refl }
 fault-numbered pages first reads f (nextOutside page i h o) =
-    record { low = omega arith; high = omega arith; carries = inr i; loopCarries = λ e. absurd (omega arith) }
+    record { range = inl (omega arith, omega arith); carries = inr i; loopCarries = λ e. absurd (omega arith) }
 fault-numbered pages first reads f (pageFault page i h e) =
     let r = reads page f e in
-    record { low = omega arith; high = omega arith; carries = inr (rw (r .2) i); loopCarries = λ l. absurd (omega arith) }
-fault-numbered pages first reads f loop = record { low = omega arith; high = omega arith; carries = inl refl; loopCarries = λ e. refl }
+    record {
+      range = ⊎-elim (λ k. inl (omega (arith, k .0), omega (arith, k .1))) (λ k. inr k) (r .0);
+      carries = inr (rw (r .1) i);
+      loopCarries = λ l. absurd (⊎-elim (λ k. omega (arith, k .1)) (λ k. omega arith) (r .0));
+    }
+fault-numbered pages first reads f loop = record { range = inl (omega arith, omega arith); carries = inl refl; loopCarries = λ e. refl }

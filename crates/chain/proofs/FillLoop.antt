@@ -4,7 +4,7 @@
 --     next       after any other page
 --     end        after the last page
 use mathlib.Core.Path.{_≡_, refl, sym, ap, _∙_}
-use mathlib.Core.List.{[], _++_}
+use mathlib.Core.List.{List, [], _++_}
 use Prim.Native.Nat.{ℕ, suc, _+_, _-_, _<_, _≤_}
 use native.Mathlib.Omega.{arith}
 use lib.ListN.{length, take, drop}
@@ -16,15 +16,14 @@ use Rattle.chain.specs.Along.{rowsAlong}
 use Rattle.chain.specs.File.{pageNext, pagePlaces, placesAlong}
 use Rattle.lists.proofs.Sets.{sets-append, sets-past, put-rest}
 
-module _ (size : ℕ) (image : Bytes) (left page : ℕ) where
-  pub along-more : 0 < left
-      → placesAlong size image left page ≡ pagePlaces size image page ++ placesAlong size image (left - 1) (pageNext size image page)
-  unfolding placesAlong rowsAlong
-  along-more h = let more : left ≡ suc (left - 1) = omega arith in ap (λ (n : ℕ). placesAlong size image n page) more
+module _ {A : Type 0} (forward : ℕ → ℕ) (rows : ℕ → List A) (left page : ℕ) where
+  pub along-more : 0 < left → rowsAlong forward rows left page ≡ rows page ++ rowsAlong forward rows (left - 1) (forward page)
+  unfolding rowsAlong
+  along-more h = let more : left ≡ suc (left - 1) = omega arith in ap (λ (n : ℕ). rowsAlong forward rows n page) more
 
-  pub along-end : left ≤ 0 → placesAlong size image left page ≡ []
-  unfolding placesAlong rowsAlong
-  along-end h = let none : left ≡ 0 = omega arith in ap (λ (n : ℕ). placesAlong size image n page) none
+  pub along-end : left ≤ 0 → rowsAlong forward rows left page ≡ []
+  unfolding rowsAlong
+  along-end h = let none : left ≡ 0 = omega arith in ap (λ (n : ℕ). rowsAlong forward rows n page) none
 
 -- so many pages are left, from this page on, and the places of those before stand in the list before index at
 pub record Filling (size : ℕ) (image : Bytes) (first pages : ℕ) (list₀ : Places) (page left at : ℕ) (list : Places) : Type 0 where
@@ -38,7 +37,7 @@ begin size image first pages list = record { inside = omega arith; same = refl; 
 module _ {size : ℕ} {image : Bytes} {first pages : ℕ} {list₀ : Places} {page left at : ℕ} {list : Places}
     (w : Filling size image first pages list₀ page left at list) where
   pub end : left ≤ 0 → list ≡ written list₀ (placesAlong size image pages first)
-  end h = sym (w .rest ∙ rw (along-end size image left page h))
+  end h = sym (w .rest ∙ rw (along-end (pageNext size image) (pagePlaces size image) left page h))
 
   -- the part of the list from index at on came back with these places
   module _ {part : Places} (places : Places) (p : part ≡ written (take (length list - at) (drop at list)) places) where
@@ -55,7 +54,7 @@ module _ {size : ℕ} {image : Bytes} {first pages : ℕ} {list₀ : Places} {pa
     module _ {found : ℕ} (more : 0 < left) (f : found ≡ length (pagePlaces size image page)) (e : places ≡ pagePlaces size image page) where
       turn : written list₀ (placesAlong size image pages first) ≡ sets after (at + found) (placesAlong size image (left - 1) (pageNext size image page))
       turn =
-          w .rest ∙ ap (sets list at) (along-more size image left page more)
+          w .rest ∙ ap (sets list at) (along-more (pageNext size image) (pagePlaces size image) left page more)
           ∙ sets-append list at (pagePlaces size image page) (placesAlong size image (left - 1) (pageNext size image page))
           ∙ rw (← e, ← wrote, ap length e, ← f)
 

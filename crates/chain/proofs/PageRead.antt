@@ -1,35 +1,37 @@
 -- What `page::read` tells the walk of a page: its count of rows, which is at most the page's length, or its fault. Rule 4.5.
 use mathlib.Core.Path.{_≡_, refl, ap, sym, _∙_}
-use Prim.Native.Nat.{ℕ, _+_, _*_, _≤_}
+use Prim.Native.Nat.{ℕ, _≤_}
 use native.Mathlib.Omega.{arith}
 use lib.ListN.{length, length-map}
-use Rattle.lists.specs.Alias.{Bytes, Places}
+use Rattle.lists.specs.Alias.{Bytes}
 use Rattle.refusal.specs.declared.Refusal.{Refusal}
 use Rattle.refusal.specs.Fault.{faultOf}
 use Rattle.refusal.specs.Answer.{Answer, given, refused}
 use Rattle.table.specs.declared.Table.{Table}
 use Rattle.page.specs.declared.PageRead.{PageRead}
-use Rattle.page.specs.declared.PageRead.the-variants.{Rows, Refused}
-use Rattle.page.specs.Read.{rowStarts, readPage, rowCount, pageReadOf}
+use Rattle.page.specs.declared.PageRead.the-variants.{Counted, Refused}
+use Rattle.page.specs.Found.{rowOf}
+use Rattle.page.specs.Read.{rowEntries, readPage, rowCount, pageReadOf}
+use Rattle.page.specs.Found.{Rows}
 use Rattle.chain.specs.File.{pagePart}
 use Rattle.lists.proofs.Choice.{never}
-use Rattle.page.proofs.RowStarts.{rows-short}
+use Rattle.page.proofs.RowEntries.{rows-short}
 use Rattle.page.proofs.PageAnswer.{page-read}
 use Rattle.chain.proofs.PagePart.{part-short}
 
 module _ {page : Bytes} (size : ℕ) (image : Bytes) (number : ℕ) (table : Table) (p : page ≡ pagePart size image number) {r : PageRead}
     (e : pageReadOf r ≡ rowCount (readPage number table page)) where
-  pub read-given : {found : ℕ} → r ≡ Rows found → given found ≡ rowCount (readPage number table (pagePart size image number))
+  pub read-given : {found : ℕ} → r ≡ Counted found → given found ≡ rowCount (readPage number table (pagePart size image number))
   read-given k = ap pageReadOf (sym k) ∙ e ∙ rw p
 
   pub read-refused : {f : Refusal} → r ≡ Refused f → refused (faultOf f) ≡ rowCount (readPage number table (pagePart size image number))
   read-refused k = ap pageReadOf (sym k) ∙ e ∙ rw p
 
-count-short : (number : ℕ) (table : Table) (page : Bytes) (a : Answer Places) → readPage number table page ≡ a → (found : ℕ) → given found ≡ rowCount a
+count-short : (number : ℕ) (table : Table) (page : Bytes) (a : Answer Rows) → readPage number table page ≡ a → (found : ℕ) → given found ≡ rowCount a
     → found ≤ length page
 count-short number table page (given rows) e found k =
     let n : found ≡ length rows = cc in
-    let m = ap length (page-read number table page rows e .found) ∙ length-map (rowStarts page) (λ (row : ℕ). number * length page + row) in
+    let m = ap length (page-read number table page rows e .found) ∙ length-map (rowEntries page) (rowOf number page) in
     omega (arith, rows-short page)
 count-short number table page (refused f) e found k = never (cc)
 

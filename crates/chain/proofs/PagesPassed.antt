@@ -8,10 +8,10 @@ use Prim.Native.Nat.{ℕ, zero, suc, _+_, _-_, _≤_}
 use native.Mathlib.Numerals.{add-one}
 use native.Mathlib.Omega.{arith}
 use lib.ListN.{length}
-use Rattle.lists.specs.Alias.{Places}
 use Rattle.lists.specs.Member.{isMember}
 use Rattle.refusal.specs.Answer.{Answer, given, refused}
 use Rattle.format.specs.Place.{linkable}
+use Rattle.page.specs.Found.{Rows}
 use Rattle.chain.specs.Walk.{Pages, Walk, full, waiting, inFront, walk, walkFrom}
 use Rattle.chain.specs.Along.{along, rowsAlong}
 use Rattle.lists.proofs.Choice.{on, never, cond-holds}
@@ -20,15 +20,15 @@ use Rattle.chain.proofs.FuelEnough.{few}
 use Rattle.chain.proofs.WalkStep.{readThen, behind, step-holds}
 
 -- n pages from this page on, none of which was met before, and their rows
-pub record Passed (pages : Pages) (met : List ℕ) (page : ℕ) (rows : List ℕ) (n : ℕ) : Type 0 where
+pub record Passed (pages : Pages) (met : List ℕ) (page : ℕ) (rows : Rows) (n : ℕ) : Type 0 where
   pub distinct : Distinct (along (pages .next) n page)
   pub new : (q : ℕ) → isMember q (along (pages .next) n page) ≡ true → isMember q met ≡ false
   pub inside : (q : ℕ) → isMember q (along (pages .next) n page) ≡ true → linkable (pages .pageCount) q ≡ true
   pub held : (q : ℕ) → isMember q (along (pages .next) n page) ≡ true → pages .held q ≡ true
-  pub found : (rowsOf : ℕ → List ℕ) → ((q : ℕ) (some : List ℕ) → linkable (pages .pageCount) q ≡ true → pages .read q ≡ given some → rowsOf q ≡ some)
+  pub found : (rowsOf : ℕ → Rows) → ((q : ℕ) (some : Rows) → linkable (pages .pageCount) q ≡ true → pages .read q ≡ given some → rowsOf q ≡ some)
       → rowsAlong (pages .next) rowsOf n page ≡ rows
 
-abbrev pub PassedBy : Pages → List ℕ → ℕ → Walk Places → Type 0
+abbrev pub PassedBy : Pages → List ℕ → ℕ → Walk Rows → Type 0
 PassedBy pages met page (given (full rows n)) = Passed pages met page rows n
 PassedBy pages met page (given (waiting at rows n)) = Passed pages met page rows n
 PassedBy pages met page (refused f) = Unit {0}
@@ -46,7 +46,7 @@ module _ (pages : Pages) where
       λ s. false≢true (sym e ∙ rw s (member-first page met)),
     )
 
-    passed-more : (rows rest : Places) (n : ℕ) → pages .read page ≡ given rows → Passed pages (page ∷ met) (pages .next page) rest n
+    passed-more : (rows rest : Rows) (n : ℕ) → pages .read page ≡ given rows → Passed pages (page ∷ met) (pages .next page) rest n
         → Passed pages met page (rows ++ rest) (n + 1)
     unfolding along rowsAlong
     passed-more rows rest n e p =
@@ -62,13 +62,13 @@ module _ (pages : Pages) where
         behindIt : List ℕ
         behindIt = along (pages .next) n (pages .next page)
 
-    passed-front : (rows : Places) → pages .read page ≡ given rows → (w : Walk Places) → PassedBy pages (page ∷ met) (pages .next page) w
+    passed-front : (rows : Rows) → pages .read page ≡ given rows → (w : Walk Rows) → PassedBy pages (page ∷ met) (pages .next page) w
         → PassedBy pages met page (inFront rows w)
     passed-front rows e (given (full rest n)) p = passed-more rows rest n e p
     passed-front rows e (given (waiting at rest n)) p = passed-more rows rest n e p
     passed-front rows e (refused f) p = tt
 
-    passed-read : (r : Answer Places) → pages .read page ≡ r → (w : Walk Places) → PassedBy pages (page ∷ met) (pages .next page) w
+    passed-read : (r : Answer Rows) → pages .read page ≡ r → (w : Walk Rows) → PassedBy pages (page ∷ met) (pages .next page) w
         → PassedBy pages met page (readThen r w)
     passed-read (given rows) e w p = passed-front rows e w p
     passed-read (refused f) e w p = tt
@@ -92,5 +92,5 @@ module _ (pages : Pages) where
   along-length zero page = refl
   along-length (suc n) page = ap suc (along-length n (pages .next page))
 
-  pub pages-few : {page : ℕ} {met rows : List ℕ} {n : ℕ} → Passed pages met page rows n → n ≤ pages .pageCount - 1
+  pub pages-few : {page : ℕ} {met : List ℕ} {rows : Rows} {n : ℕ} → Passed pages met page rows n → n ≤ pages .pageCount - 1
   pages-few {page} {n = n} p = omega (arith, along-length n page, few (pages .pageCount) (along (pages .next) n page) (p .distinct) (p .inside))

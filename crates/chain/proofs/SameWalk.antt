@@ -8,10 +8,10 @@ use mathlib.Core.List.{List, [], _∷_}
 use Prim.Native.Nat.{ℕ, zero, suc}
 use lib.Dec.{eqb}
 use borrow.Author.Tests.{not-false, eq-eqb, eqb-true}
-use Rattle.lists.specs.Alias.{Places}
 use Rattle.lists.specs.Member.{isMember}
 use Rattle.refusal.specs.Answer.{Answer, given, refused}
 use Rattle.format.specs.Place.{linkable}
+use Rattle.page.specs.Found.{Rows}
 use Rattle.chain.specs.Walk.{Pages, Walk, walk, walkFrom}
 use Rattle.chain.specs.Reads.{isGiven, comesTo, goesOn, reads, readsFrom}
 use Rattle.lists.proofs.Choice.{on, never, both-true, or-right, cond-agree}
@@ -32,9 +32,9 @@ cond-same : {A : Type 0} {x x′ y y′ : A} {p q : Bool} → p ≡ q → (p ≡
 cond-same {p = p} e f g = rw (← e) (cond-agree p f g)
 
 -- behind a fault nothing is looked at
-then-same : (r : Answer Places) {t : Answer Places} (v w : Walk Places) → r ≡ t → (isGiven r ≡ true → v ≡ w) → readThen r v ≡ readThen t w
-then-same (given rows) v w e f = rw (f refl) (ap (λ (x : Answer Places). readThen x w) e)
-then-same (refused f) v w e g = ap (λ (x : Answer Places). readThen x w) e
+then-same : (r : Answer Rows) {t : Answer Rows} (v w : Walk Rows) → r ≡ t → (isGiven r ≡ true → v ≡ w) → readThen r v ≡ readThen t w
+then-same (given rows) v w e f = rw (f refl) (ap (λ (x : Answer Rows). readThen x w) e)
+then-same (refused f) v w e g = ap (λ (x : Answer Rows). readThen x w) e
 
 module _ (a : Pages) (fuel : ℕ) (met : List ℕ) (page : ℕ) where
   pub comes : linkable (a .pageCount) page ≡ true → isMember page met ≡ false → a .held page ≡ true → comesTo a met page ≡ true

@@ -4,24 +4,24 @@
 use mathlib.Core.Path.{_≡_, refl, sym, ap, subst, _∙_}
 use mathlib.Core.Bool.{Bool, true}
 use mathlib.Core.List.{List, [], _∷_, _++_}
-use Prim.Native.Nat.{ℕ, zero, suc, _+_}
-use Rattle.lists.specs.Alias.{Places}
+use Prim.Native.Nat.{ℕ, zero, suc}
 use Rattle.lists.specs.Member.{isMember}
 use Rattle.refusal.specs.Answer.{Answer, given, refused}
 use Rattle.format.specs.Place.{linkable}
+use Rattle.page.specs.Found.{Rows}
 use Rattle.chain.specs.Walk.{Pages, Walk, full, waiting, inFront, walk, walkFrom}
 use Rattle.chain.specs.Begins.{Begins}
 use Rattle.lists.proofs.Choice.{on}
 use Rattle.chain.proofs.WalkStep.{readThen, behind, step-outside, step-met, step-waiting, step-read}
 
 -- a later walk that is Full or Waiting begins with these rows
-abbrev pub BeginsWith : Places → Walk Places → Type 0
+abbrev pub BeginsWith : Rows → Walk Rows → Type 0
 BeginsWith rows (given (full all pages)) = Begins rows all
 BeginsWith rows (given (waiting page all pages)) = Begins rows all
 BeginsWith rows (refused f) = Unit {0}
 
 -- with more pages held, Full and refusals stay, and what Waiting found stays in front
-abbrev pub Grows : Walk Places → Walk Places → Type 0
+abbrev pub Grows : Walk Rows → Walk Rows → Type 0
 Grows (given (full rows pages)) later = later ≡ given (full rows pages)
 Grows (given (waiting page rows pages)) later = BeginsWith rows later
 Grows (refused f) later = later ≡ refused f
@@ -33,31 +33,31 @@ pub record Grown (a b : Pages) : Type 0 where
   pub read : (page : ℕ) → linkable (a .pageCount) page ≡ true → a .held page ≡ true → a .read page ≡ b .read page
   pub next : (page : ℕ) → linkable (a .pageCount) page ≡ true → a .held page ≡ true → a .next page ≡ b .next page
 
-pub begins-none : (all : List ℕ) → Begins [] all
+pub begins-none : {A : Type 0} (all : List A) → Begins [] all
 unfolding Begins
 begins-none all = refl
 
-pub begins-front : (rows some all : List ℕ) → Begins some all → Begins (rows ++ some) (rows ++ all)
+pub begins-front : {A : Type 0} (rows some all : List A) → Begins some all → Begins (rows ++ some) (rows ++ all)
 unfolding Begins
 begins-front [] some all e = e
-begins-front (row ∷ rows) some all e = ap (λ (l : List ℕ). row ∷ l) (begins-front rows some all e)
+begins-front {A} (row ∷ rows) some all e = ap (λ (l : List A). row ∷ l) (begins-front rows some all e)
 
-pub begins-any : (w : Walk Places) → BeginsWith [] w
+pub begins-any : (w : Walk Rows) → BeginsWith [] w
 begins-any (given (full all pages)) = begins-none all
 begins-any (given (waiting page all pages)) = begins-none all
 begins-any (refused f) = tt
 
-with-front : (rows some : List ℕ) (w : Walk Places) → BeginsWith some w → BeginsWith (rows ++ some) (inFront rows w)
+with-front : (rows some : Rows) (w : Walk Rows) → BeginsWith some w → BeginsWith (rows ++ some) (inFront rows w)
 with-front rows some (given (full all pages)) e = begins-front rows some all e
 with-front rows some (given (waiting page all pages)) e = begins-front rows some all e
 with-front rows some (refused f) e = tt
 
-grows-front : (rows : List ℕ) (v w : Walk Places) → Grows v w → Grows (inFront rows v) (inFront rows w)
+grows-front : (rows : Rows) (v w : Walk Rows) → Grows v w → Grows (inFront rows v) (inFront rows w)
 grows-front rows (given (full some pages)) w e = ap (inFront rows) e
 grows-front rows (given (waiting page some pages)) w e = with-front rows some w e
 grows-front rows (refused f) w e = ap (inFront rows) e
 
-grows-read : (r : Answer Places) (v w : Walk Places) → Grows v w → Grows (readThen r v) (readThen r w)
+grows-read : (r : Answer Rows) (v w : Walk Rows) → Grows v w → Grows (readThen r v) (readThen r w)
 grows-read (given rows) v w e = grows-front rows v w e
 grows-read (refused f) v w e = refl
 

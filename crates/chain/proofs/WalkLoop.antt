@@ -14,13 +14,13 @@ use native.Mathlib.Omega.{arith}
 use lib.ListN.{length, length-append}
 use lib.Dec.{eqb, leb}
 use borrow.Author.Tests.{le-leb, lt-leb, eqb-true, leb-true, leb-false}
-use Rattle.lists.specs.Alias.{Places}
 use Rattle.lists.specs.Member.{isMember}
 use Rattle.refusal.specs.declared.Fault.{Fault}
 use Rattle.refusal.specs.Fault.{fault}
 use Rattle.refusal.specs.Answer.{Answer, given, refused}
 use Rattle.page.specs.Read.{rowCount}
 use Rattle.format.specs.Place.{linkable}
+use Rattle.page.specs.Found.{Rows}
 use Rattle.chain.specs.Walk.{Pages, Walk, full, waiting, inFront, walk, walkFrom}
 use Rattle.chain.specs.Tally.{tally}
 use Rattle.lists.proofs.Choice.{on, never}
@@ -41,7 +41,7 @@ ahead-none (given (waiting page rows pages)) = let r : 0 + rows ≡ rows = omega
 ahead-none (refused f) = refl
 
 -- a page in front of the rest, counted
-ahead-page : (rows n : ℕ) (some : List ℕ) (w : Walk Places) → ahead rows n (tally (inFront some w)) ≡ ahead (rows + length some) (n + 1) (tally w)
+ahead-page : (rows n : ℕ) (some : Rows) (w : Walk Rows) → ahead rows n (tally (inFront some w)) ≡ ahead (rows + length some) (n + 1) (tally w)
 ahead-page rows n some (given (full rest pages)) =
     let p : n + (pages + 1) ≡ n + 1 + pages = omega arith in
     let r : rows + length (some ++ rest) ≡ rows + length some + length rest = simp length-append (omega arith) in
@@ -69,16 +69,16 @@ most-left count n h =
     (λ f. f ∙ sym (lt-leb (most count) (n + 1) (omega (arith, leb-false count (n + 1) f))))
 
 -- what a page's count says of its rows
-record Counted (a : Answer Places) (k : ℕ) : Type 0 where
-  some : List ℕ
+record Counted (a : Answer Rows) (k : ℕ) : Type 0 where
+  some : Rows
   gives : a ≡ given some
   count : length some ≡ k
 
-counted-given : (a : Answer Places) (k : ℕ) → given k ≡ rowCount a → Counted a k
+counted-given : (a : Answer Rows) (k : ℕ) → given k ≡ rowCount a → Counted a k
 counted-given (given some) k e = record { some = some; gives = refl; count = cc }
 counted-given (refused f) k e = never (cc)
 
-counted-refused : (a : Answer Places) (f : Fault) → refused f ≡ rowCount a → a ≡ refused f
+counted-refused : (a : Answer Rows) (f : Fault) → refused f ≡ rowCount a → a ≡ refused f
 counted-refused (given some) f e = never (cc)
 counted-refused (refused g) f e = cc
 
@@ -86,7 +86,7 @@ counted-refused (refused g) f e = cc
 pub record Through (pages : Pages) (met : List ℕ) (page q : ℕ) : Type 0 where
   pub inside : linkable (pages .pageCount) q ≡ true
   pub held : pages .held q ≡ true
-  pub rows : List ℕ
+  pub rows : Rows
   pub read : pages .read q ≡ given rows
   pub notLast : pages .isLast q ≡ false
   pub onward : (isMember (pages .next q) met ≡ true) ⊎ (pages .next q ≡ page)
@@ -193,7 +193,7 @@ module _ {pages : Pages} {first rows n mark holder page : ℕ} (g : Going pages 
         read-rows new =
             let k = counted-given (pages .read page) found e in
             let w = behind pages (pages .pageCount - n) (g .met) holder page in
-            read-new new ∙ ap (λ (a : Answer Places). ahead rows n (tally (readThen a w))) (k .gives) ∙ ahead-page rows n (k .some) w ∙ rw (k .count)
+            read-new new ∙ ap (λ (a : Answer Rows). ahead rows n (tally (readThen a w))) (k .gives) ∙ ahead-page rows n (k .some) w ∙ rw (k .count)
 
         pub at-last : pages .isLast page ≡ true → given (full (rows + found) (n + 1)) ≡ tally (walkFrom pages first)
         unfolding behind

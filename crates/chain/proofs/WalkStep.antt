@@ -7,16 +7,16 @@ use mathlib.Core.Bool.{true, false, cond, not}
 use mathlib.Core.List.{List, [], _∷_}
 use Prim.Native.Nat.{ℕ, zero, suc}
 use borrow.Author.Tests.{not-true, not-false}
-use Rattle.lists.specs.Alias.{Places}
 use Rattle.lists.specs.Member.{isMember}
 use Rattle.refusal.specs.Fault.{fault}
 use Rattle.refusal.specs.Answer.{Answer, given, refused, andThen}
 use Rattle.format.specs.Place.{linkable}
+use Rattle.page.specs.Found.{Rows}
 use Rattle.chain.specs.Walk.{Pages, Walk, full, waiting, inFront, walk}
 use Rattle.lists.proofs.Choice.{cond-holds}
 
 -- a page's rows in front of the rest, or its fault
-abbrev pub readThen : Answer Places → Walk Places → Walk Places
+abbrev pub readThen : Answer Rows → Walk Rows → Walk Rows
 readThen read rest = andThen read (λ rows. inFront rows rest)
 
 module _ (pages : Pages) (fuel : ℕ) (met : List ℕ) (holder page : ℕ) where
@@ -25,7 +25,7 @@ module _ (pages : Pages) (fuel : ℕ) (met : List ℕ) (holder page : ℕ) where
   step-outside e = rw e
 
   -- the walk behind a page that is read
-  unfoldable pub behind : Walk Places
+  unfoldable pub behind : Walk Rows
   behind = cond (pages .isLast page) (given (full [] 0)) (walk pages fuel (page ∷ met) page (pages .next page))
 
   module _ (inside : linkable (pages .pageCount) page ≡ true) where
@@ -41,7 +41,7 @@ module _ (pages : Pages) (fuel : ℕ) (met : List ℕ) (holder page : ℕ) where
     unfolding walk behind
     step-read e h = rw (inside, e, h)
 
-  pub step-holds : (P : Walk Places → Type 0)
+  pub step-holds : (P : Walk Rows → Type 0)
       → (linkable (pages .pageCount) page ≡ false → P (refused (fault 11 holder)))
       → P (refused (fault 16 0))
       → (linkable (pages .pageCount) page ≡ true → isMember page met ≡ false → pages .held page ≡ false → P (given (waiting page [] 0)))

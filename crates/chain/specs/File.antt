@@ -1,5 +1,5 @@
 -- The page layer of a file (specs/Walk): its pages are parts of the image, and the map says which are held.
--- Rules 3.10, 4.5, 4.6 and 4.17. Rests on reading a page (crate `page`).
+-- Rules 3.10, 4.5, 4.6, 4.17 and 5.34. Rests on reading a page (crate `page`).
 use Prim.Native.Nat.{ℕ, _*_}
 use lib.Dec.{eqb}
 use lib.ListN.{take, drop}
@@ -7,7 +7,8 @@ use Rattle.lists.specs.Alias.{Bytes, Words, Places}
 use Rattle.table.specs.declared.Table.{Table}
 use Rattle.directory.specs.declared.Chain.{Chain}
 use Rattle.page.specs.Header as header
-use Rattle.page.specs.Read.{readPage, rowPlaces}
+use Rattle.page.specs.Found.{Rows}
+use Rattle.page.specs.Read.{pageRows, readPage, rowPlaces}
 use Rattle.chain.specs.Walk.{Pages}
 use Rattle.chain.specs.Along.{rowsAlong}
 use Rattle.chain.specs.Held.{pageHeld}
@@ -29,10 +30,17 @@ filePages chain table image map =
       next = λ (number : ℕ). pageNext (chain .«len_page») image number;
     }
 
+-- Rule 5.34: the rows of a page, and of the first k pages from a page on
+unfoldable pub rowsOn : (size : ℕ) (image : Bytes) (number : ℕ) → Rows
+rowsOn size image number = pageRows number (pagePart size image number)
+
+abbrev pub rowsFirst : (size : ℕ) (image : Bytes) (k page : ℕ) → Rows
+rowsFirst size image k page = rowsAlong (pageNext size image) (rowsOn size image) k page
+
 -- the places that are written of a page
 unfoldable pub pagePlaces : (size : ℕ) (image : Bytes) (number : ℕ) → Places
 pagePlaces size image number = rowPlaces (number * size) (pagePart size image number)
 
 -- the places that are written of the first k pages from a page on
-unfoldable pub placesAlong : (size : ℕ) (image : Bytes) (k page : ℕ) → Places
+abbrev pub placesAlong : (size : ℕ) (image : Bytes) (k page : ℕ) → Places
 placesAlong size image k page = rowsAlong (pageNext size image) (pagePlaces size image) k page

@@ -7,4 +7,3 @@ pub mod Held
 pub mod File
 pub mod Reads
 pub mod Chain
-pub mod Place

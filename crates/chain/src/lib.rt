@@ -1,4 +1,4 @@
-// Along a table's chain of pages: the walk, the places of its rows, and one row by its number.
+// Along a table's chain of pages: the walk, the places of its rows, and one row by its number in the table.
 ghost use mathlib.Core.Path.{_≡_};
 ghost use mathlib.Core.Bool.{_||_};
 ghost use Prim.Native.Nat.{_+_, min};
@@ -10,9 +10,10 @@ ghost use Rattle.directory.specs.Chain.{chainIn};
 ghost use Rattle.chain.specs.Walk.{walkFrom};
 ghost use Rattle.chain.specs.Tally.{tally, walkedOf};
 ghost use Rattle.chain.specs.Held.{pageHeld};
-ghost use Rattle.chain.specs.File.{pagePart, filePages, pagePlaces, placesAlong};
-ghost use Rattle.chain.specs.Chain.{chainWalk, chainPlaces};
-ghost use Rattle.chain.specs.Place.{placeOf};
+ghost use Rattle.page.specs.Found.{noRow};
+ghost use Rattle.page.specs.Row.{rowAtOf};
+ghost use Rattle.chain.specs.File.{pagePart, filePages, rowsFirst, pagePlaces, placesAlong};
+ghost use Rattle.chain.specs.Chain.{chainWalk, chainRows, chainPlaces};
 use directory::Chain;
 use directory::ChainReply;
 use directory::Directory;
@@ -28,12 +29,6 @@ pub enum Walked {
     Full { rows: usize, pages: u64 },
     Waiting { page: u32, rows: usize, pages: u64 },
     Refused(Refusal),
-}
-
-// Row k of a page or of a chain: its place in the image, or how many rows there are.
-pub enum Place {
-    At(u32),
-    Past(usize),
 }
 
 // Whether every block of a page is held.
@@ -102,7 +97,7 @@ fn walk_chain(chain: Chain, table: Table, image: &[u8], map: &[u64]) -> Walked
         let bytes = part(image, page, chain.len_page);
         match page::read(bytes, page, table) {
             PageRead::Refused(refusal) => return Walked::Refused(refusal),
-            PageRead::Rows(found) => rows += found,
+            PageRead::Counted(found) => rows += found,
         }
         pages += 1;
         if page == chain.last_page {
@@ -177,52 +172,37 @@ pub fn fill(directory: Directory, table: Table, pages: u64, image: &[u8], list: 
     }
 }
 
-// Row k of a page, among the places that fill would write.
-fn row_on(size: u32, number: u32, image: &[u8], k: usize) -> Place
-    ensures { λ r. ⌜ placeOf r ≡ nth (pagePlaces size (now (image .entry)) number) k 0 ⌝ }
-{
-    let page = Page::new(number, size);
-    let place = page.start;
-    if 0xffff_ffff - Page::HEAP - 0xffff < place {
-        return Place::Past(0);
-    }
-    let found = page::row(part(image, number, size), k);
-    match found {
-        RowAt::Start(at) => Place::At((place as u32) + (at as u32)),
-        RowAt::Past(rows) => Place::Past(rows),
-    }
-}
-
 // Row k on the first pages of a chain.
-fn row_along(size: u32, first: u32, pages: u64, image: &[u8], k: usize) -> Place
-    ensures { λ r. ⌜ placeOf r ≡ nth (placesAlong size (now (image .entry)) pages first) k 0 ⌝ }
+fn row_along(size: u32, first: u32, pages: u64, image: &[u8], k: usize) -> RowAt
+    ensures { λ r. ⌜ rowAtOf r ≡ nth noRow (rowsFirst size (now (image .entry)) pages first) k 0 ⌝ }
 {
     let mut page = first;
     let mut left = pages;
     let mut found: usize = 0;
     while 0 < left {
-        let place = row_on(size, page, image, k - found);
-        match place {
-            Place::At(at) => {
-                return Place::At(at);
+        let bytes = part(image, page, size);
+        let row = page::row_at(bytes, page, k - found);
+        match row {
+            RowAt::Found(here) => {
+                return RowAt::Found(here);
             }
-            Place::Past(rows) => {
+            RowAt::Past(rows) => {
                 found += rows;
             }
         }
-        page = page::next(part(image, page, size));
+        page = page::next(bytes);
         left -= 1;
     }
-    Place::Past(found)
+    RowAt::Past(found)
 }
 
 // Row k on the first pages of a table's chain, which a walk has counted.
-pub fn row(directory: Directory, table: Table, pages: u64, image: &[u8], k: usize) -> Place
-    ensures { λ r. ⌜ placeOf r ≡ nth (chainPlaces (now (image .entry)) pages (chainIn directory table)) k 0 ⌝ }
+pub fn row(directory: Directory, table: Table, pages: u64, image: &[u8], k: usize) -> RowAt
+    ensures { λ r. ⌜ rowAtOf r ≡ nth noRow (chainRows (now (image .entry)) pages (chainIn directory table)) k 0 ⌝ }
 {
     let chain = directory.chain(table);
     match chain {
         ChainReply::Found(found) => row_along(found.len_page, found.first_page, pages, image, k),
-        ChainReply::Refused(_) => Place::Past(0),
+        ChainReply::Refused(_) => RowAt::Past(0),
     }
 }

@@ -1,6 +1,6 @@
 -- The theorem (specs/Depend): rules 7.1 and 7.9 to 7.13 for every question.
 -- Rests on the files above it in proofs/Lib.
-use mathlib.Core.Path.{_≡_, refl, ap}
+use mathlib.Core.Path.{_≡_, refl, ap, _∙_}
 use mathlib.Core.Bool.{not}
 use Prim.Native.Nat.{ℕ}
 use lib.ListN.{length}
@@ -13,7 +13,7 @@ use Rattle.table.specs.Table.{slotCount}
 use Rattle.intake.specs.Check.{checkLengths, checkCall}
 use Rattle.intake.specs.Memory.{Memory, memory}
 use Rattle.table_walk.specs.Asked.{askedTable, withSlot, askedSlot}
-use Rattle.table_walk.specs.Walk.{tableWalk}
+use Rattle.table_walk.specs.Walk.{pageSize, tableWalk}
 use Rattle.export.specs.Rows.{settleRows, askRows}
 use Rattle.export.specs.Record.{tableRecord, askRecord}
 use Rattle.export.specs.Text.{tableText, askText}
@@ -22,8 +22,8 @@ use Rattle.depend.specs.Bytes.{relevantIn, relevant}
 use Rattle.depend.specs.Depend.{answerOn, SameRows, EveryQuestion}
 use Rattle.lists.proofs.Choice.{on}
 use Rattle.number.proofs.NumberAgree.{agree-less}
-use Rattle.table_walk.proofs.AskedTable.{asked-sound}
-use Rattle.depend.proofs.WalkAgree.{walk-agree}
+use Rattle.export.proofs.Questions.{by-size}
+use Rattle.depend.proofs.WalkAgree.{table-size, walk-agree}
 use Rattle.depend.proofs.FoundRowAgree.{record-row, text-row}
 use Rattle.depend.proofs.RelevantHeld.{relevant-held}
 use Rattle.depend.proofs.RelevantRead.{relevant-read}
@@ -43,10 +43,11 @@ module _ (len : ℕ) (map : Words) (s t : Bytes) where
 
   rows-agree : (number : ℕ) (list : Places) → Agree (relevantIn len m (askedTable len m number)) s t → askRows len m number list ≡ askRows len n number list
   unfolding askRows
-  rows-agree number list a = rw (← asked-same (a .long) number) (ap (settleRows list) (by (askedTable len m number) a))
+  rows-agree number list a = rw (← asked-same (a .long) number) (by (askedTable len m number) a)
     where
-      by : (x : Answer Table) → Agree (relevantIn len m x) s t → andThen x (tableWalk len m) ≡ andThen x (tableWalk len n)
-      by (given table) b = walk-agree len map s t table b
+      by : (x : Answer Table) → Agree (relevantIn len m x) s t
+          → settleRows (pageSize m) list (andThen x (tableWalk len m)) ≡ settleRows (pageSize n) list (andThen x (tableWalk len n))
+      by (given table) b = by-size len m table list (table-size len map s t table b) ∙ ap (settleRows (pageSize n) list) (walk-agree len map s t table b)
       by (refused f) b = refl
 
   record-agree : (number k : ℕ) → Agree (relevantIn len m (askedTable len m number)) s t → askRecord len m number k ≡ askRecord len n number k
@@ -54,7 +55,7 @@ module _ (len : ℕ) (map : Words) (s t : Bytes) where
   record-agree number k a = rw (← asked-same (a .long) number) (by (askedTable len m number) refl a)
     where
       by : (x : Answer Table) → x ≡ askedTable len m number → Agree (relevantIn len m x) s t → andThen x (tableRecord len m k) ≡ andThen x (tableRecord len n k)
-      by (given table) e b = record-row len map s t table b (asked-sound len m number e) k
+      by (given table) e b = record-row len map s t table b k
       by (refused f) e b = refl
 
   text-agree : (number k slot : ℕ) → Agree (relevantIn len m (askedSlot len m number slot)) s t
@@ -65,7 +66,7 @@ module _ (len : ℕ) (map : Words) (s t : Bytes) where
       by : (x : Answer Table) → x ≡ askedTable len m number → Agree (relevantIn len m (andThen x (λ table. withSlot slot table (given table)))) s t
           → andThen x (tableText len m k slot) ≡ andThen x (tableText len n k slot)
       by (given table) e b =
-          on (ltb slot (slotCount table)) (λ h. rw h (text-row len map s t table (rw h at b) (asked-sound len m number e) k slot)) (λ h. rw h)
+          on (ltb slot (slotCount table)) (λ h. rw h (text-row len map s t table (rw h at b) k slot)) (λ h. rw h)
       by (refused f) e b = refl
 
 module _ (len : ℕ) (map : Words) where
@@ -79,7 +80,7 @@ module _ (len : ℕ) (map : Words) where
       → SameRows list other (askRows len (memory image map) table list) (askRows len (memory image map) table other)
   unfolding askRows
   lists image table list other long =
-      length-decides list other long (andThen (askedTable len (memory image map) table) (tableWalk len (memory image map)))
+      length-decides (pageSize (memory image map)) list other long (andThen (askedTable len (memory image map) table) (tableWalk len (memory image map)))
 
 pub depends : EveryQuestion
 depends len map q image =

@@ -14,10 +14,9 @@ use Rattle.row.specs.Layout.{artistLayout}
 use Rattle.row.specs.Check.{checkTexts, checkRow}
 use Rattle.row.specs.Slot.{slotText}
 use Rattle.row.specs.Bytes.{slotByte, subtypeByte, rowByte}
-use Rattle.page.specs.Header.{headerAgrees, rowless, entries, num-rows}
+use Rattle.page.specs.Header.{numberAgrees, typeAgrees, rowless, entries, num-rows}
 use Rattle.page.specs.Index.{indexSize, flagsAt, offsetAt, present, rowStart, presentFrom}
-use Rattle.page.specs.Read.{indexFits, countAgrees, indexGood, beforeIndex, rowStarts, checkRows, readPage}
-use Rattle.page.specs.Row.{pageRow}
+use Rattle.page.specs.Read.{indexFits, countAgrees, indexGood, beforeIndex, rowEntries, checkRows, readPage}
 use Rattle.page.specs.OneRow.{isRow}
 use Rattle.page.specs.Bytes.{headerByte, flagsByte, offsetByte, rowByteAt, entryByte, entriesByte, readByte, namedByte}
 use Rattle.intake.specs.Length.{allowedLength}
@@ -48,19 +47,19 @@ use Rattle.depend.specs.Examples.{examples, ExamplesHold, CountAnswers, 
 pub examples-hold : ExamplesHold examples
 unfolding le16 le24 le32 anyFrom isMember within linkable headSize wholeSize isInside holdsCodes isCode firstZero codeLength
     plainText textIn readText codeByte textByte tableOf artistLayout checkTexts checkRow
-    slotByte subtypeByte rowByte headerAgrees rowless entries num-rows indexSize flagsAt offsetAt present rowStart presentFrom
-    indexFits countAgrees indexGood beforeIndex rowStarts checkRows readPage headerByte flagsByte offsetByte rowByteAt entryByte entriesByte readByte
+    slotByte subtypeByte rowByte numberAgrees typeAgrees rowless entries num-rows indexSize flagsAt offsetAt present rowStart presentFrom
+    indexFits countAgrees indexGood beforeIndex rowEntries checkRows readPage headerByte flagsByte offsetByte rowByteAt entryByte entriesByte readByte
     allowedLength spareBit bit checkLengths checkCall blockAt allowedPage allowedTables hasType typeTwice tablesHold headerHolds
     pointersFrom kept pointerAmong chainIn tableChain directoryByte blockMissing pageHeld pagePart pageNext
     comesTo goesOn reads readsFrom askedTable tableReads walkedByte firstBlockByte tableByte relevant
     inPresentRow inAbsentRow absentRow unnamedByte unreadByte unreadFor
-    pageRow isRow namedByte runBefore rank elementReads elementByte listByte
+    isRow namedByte runBefore rank elementReads elementByte listByte
 examples-hold = refl
 
 pub count-answers : CountAnswers
 unfolding le16 le24 le32 anyFrom isMember linkable headSize wholeSize isInside isCode plainText textIn readText tableOf checkTexts checkRow
-    headerAgrees rowless entries num-rows indexSize flagsAt offsetAt present rowStart presentFrom
-    indexFits countAgrees indexGood beforeIndex rowStarts checkRows readPage
+    numberAgrees typeAgrees rowless entries num-rows indexSize flagsAt offsetAt present rowStart presentFrom
+    indexFits countAgrees indexGood beforeIndex rowEntries checkRows readPage
     allowedLength spareBit bit checkLengths checkCall blockAt allowedPage allowedTables hasType typeTwice tablesHold headerHolds
     pointersFrom kept pointerAmong chainIn tableChain blockMissing pageHeld pagePart pageNext walk walkFrom askedTable tableWalk askRows
 count-answers = record { unchanged = refl; behind = λ _ _. refl; more = refl; none = refl; fewer = refl }
@@ -68,7 +67,7 @@ count-answers = record { unchanged = refl; behind = λ _ _. refl; more = refl; n
 pub code-answers : CodeAnswers
 unfolding le16 le24 le32 anyFrom isMember linkable headSize wholeSize isInside holdsCodes isCode firstZero codeLength
     plainText textIn readText tableOf checkTexts checkRow slotText
-    headerAgrees rowless entries num-rows indexSize flagsAt offsetAt present rowStart presentFrom indexFits countAgrees indexGood beforeIndex rowStarts checkRows readPage
+    numberAgrees typeAgrees rowless entries num-rows indexSize flagsAt offsetAt present rowStart presentFrom indexFits countAgrees indexGood beforeIndex rowEntries checkRows readPage
     allowedLength spareBit bit checkLengths checkCall blockAt allowedPage allowedTables hasType typeTwice tablesHold headerHolds
     pointersFrom kept pointerAmong chainIn tableChain blockMissing pageHeld pagePart pageNext walk walkFrom askedTable tableWalk rowPart askText
 code-answers = record { unchanged = refl; behind = λ _. refl; last = λ _. refl; zeroByte = refl; noCode = refl }

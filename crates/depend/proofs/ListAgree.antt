@@ -20,9 +20,10 @@ use Rattle.row.specs.Record.{readRecord}
 use Rattle.row.specs.Check.{checkRow}
 use Rattle.row.specs.Bytes.{rowByte}
 use Rattle.row.proofs.RowAgree.{record-agree, slot-agree}
+use Rattle.page.specs.declared.Row.{Row}
 use Rattle.page.specs.Bytes.{oneRowByte}
 use Rattle.page.proofs.PageAgree.{one-part, row-read-agree}
-use Rattle.page.proofs.OneRowAnswer.{ReadRow, row-read}
+use Rattle.page.proofs.OneRowAnswer.{ReadRow, row-read, row-here}
 use Rattle.bitmap.specs.Bit.{bit}
 use Rattle.intake.specs.Memory.{Memory, memory, blockAt}
 use Rattle.directory.specs.Header.{headerHolds}
@@ -33,13 +34,13 @@ use Rattle.chain.specs.File.{pagePart}
 use Rattle.chain.proofs.Linkable.{both-inside}
 use Rattle.chain.proofs.PagePart.{page-of, start-of}
 use Rattle.listed.specs.Rank.{pageOf, rank}
-use Rattle.listed.specs.Listed.{listedPlace}
+use Rattle.listed.specs.Listed.{listedRow}
 use Rattle.table_walk.specs.Walk.{pageSize}
 use Rattle.export.specs.Row.{rowPart}
-use Rattle.export.specs.Record.{recordAt}
+use Rattle.export.specs.Record.{recordOn, recordAt}
 use Rattle.export.specs.Text.{textFound, textOn, textAt}
 use Rattle.export.specs.FromList.{tableListed, recordListed, textListed}
-use Rattle.export.proofs.ListedRow.{ListedRow, then-listed}
+use Rattle.export.proofs.ListedRow.{ListedRow, listed-page, then-listed}
 use Rattle.depend.specs.Bytes.{firstBlockByte}
 use Rattle.depend.specs.ListBytes.{elementReads, elementByte, listByte}
 use Rattle.depend.proofs.PartAgree.{page-part-agree, block-agree, size-same}
@@ -81,7 +82,7 @@ module _ (len : ℕ) (map : Words) (s t : Bytes) (table : Table) (list : Places)
   page-agree r = page-part-agree a size number (oneRowByte number table (pagePart size s number) start (rank size list element)) (page-byte r)
 
   listed-agree : tableListed len m list element table ≡ tableListed len n list element table
-  unfolding tableListed listedPlace
+  unfolding tableListed listedRow
   listed-agree =
       on (bit map 0)
       (λ e. let holds = holds-agree (block-agree map s t first-bytes e) len in
@@ -106,46 +107,47 @@ module _ (len : ℕ) (map : Words) (s t : Bytes) (table : Table) (list : Places)
       (λ e. rw e refl)
 
   -- the row of the element, where it is found
-  module _ (r : ListedRow len m table list element (getD list element 0)) where
-    row : ReadRow number table (pagePart size s number) start (rank size list element)
-    row = row-read number table (pagePart size s number) start (rank size list element) (r .read)
+  module _ {row : Row} (r : ListedRow len m table list element row) where
+    read : ReadRow number table (pagePart size s number) start (rank size list element) row
+    read = row-read number table (pagePart size s number) start (rank size list element) row (r .read)
 
     found-reads : elementReads len m list element ≡ true
     found-reads =
         let linked = both-inside (len / size) number (r .page .later) (r .page .inside .inside) in
         reads (r .page .first) (r .page .header) (r .element) linked (r .page .held)
 
-    row-agree : Agree (rowByte table (rowPart size s (getD list element 0))) (rowPart size s (getD list element 0)) (rowPart size t (getD list element 0))
-    unfolding rowPart
-    row-agree = one-part number table start (rank size list element) (page-agree found-reads) (row .header) (row .rows) (row .index) (row .here)
+    on-page : row .page ≡ number
+    on-page = listed-page len m table list element r
 
-    row-good : checkRow table (rowPart size s (getD list element 0)) ≡ given tt
-    unfolding rowPart
-    row-good = row .good
+    begins : row .start ≡ start
+    begins = ap (λ (own : Row). own .start) (read .found) ∙ row-here (pagePart size s number) start (rank size list element) (read .here) .1
 
-    record-same : recordAt m table (getD list element 0) ≡ recordAt n table (getD list element 0)
+    row-agree : Agree (rowByte table (rowPart size s row)) (rowPart size s row) (rowPart size t row)
+    unfolding rowPart
+    row-agree =
+        rw (on-page, begins)
+        (one-part number table start (rank size list element) (page-agree found-reads) (read .header) (read .rows) (read .index) (read .here))
+
+    row-good : checkRow table (rowPart size s row) ≡ given tt
+    unfolding rowPart
+    row-good = rw (on-page, begins) (read .good)
+
+    record-same : recordAt m table row ≡ recordAt n table row
     record-same =
-        ap (λ x. given (found x)) (record-agree table row-good row-agree)
-        ∙ ap (λ (z : ℕ). given (found (readRecord table (rowPart z t (getD list element 0))))) (size-same map s t first-bytes (r .page .first))
+        ap (λ x. given (found (recordOn (row .page) (row .entry) x))) (record-agree table row-good row-agree)
+        ∙ ap (λ (z : ℕ). given (found (recordOn (row .page) (row .entry) (readRecord table (rowPart z t row))))) (size-same map s t first-bytes (r .page .first))
 
-    text-same : (slot : ℕ) → textAt m table slot (getD list element 0) ≡ textAt n table slot (getD list element 0)
+    text-same : (slot : ℕ) → textAt m table slot row ≡ textAt n table slot row
     text-same slot =
-        ap (textFound (getD list element 0 / size) (getD list element 0)) (slot-agree table row-good row-agree slot)
-        ∙ ap (λ (z : ℕ). textOn z t table slot (getD list element 0)) (size-same map s t first-bytes (r .page .first))
-
-  -- the place that was found is the element's
-  own-place : {place : ℕ} → ListedRow len m table list element place → ListedRow len m table list element (getD list element 0)
-  own-place r = rw (r .named) r
+        ap (textFound row size) (slot-agree table row-good row-agree slot)
+        ∙ ap (λ (z : ℕ). textOn z t table slot row) (size-same map s t first-bytes (r .page .first))
 
   pub record-agrees : recordListed len m list element table ≡ recordListed len n list element table
-  record-agrees =
-      rw (← listed-agree)
-      (then-listed len m table list element (recordAt m table) (recordAt n table) (λ place r. rw (← r .named) (record-same (own-place r))))
+  record-agrees = rw (← listed-agree) (then-listed len m table list element (recordAt m table) (recordAt n table) (λ row r. record-same r))
 
   pub text-agrees : (slot : ℕ) → textListed len m list element slot table ≡ textListed len n list element slot table
   text-agrees slot =
       rw (← listed-agree)
       (on (ltb slot (slotCount table))
-      (λ h. rw h (then-listed len m table list element (textAt m table slot) (textAt n table slot)
-      (λ place r. rw (← r .named) (text-same (own-place r) slot))))
+      (λ h. rw h (then-listed len m table list element (textAt m table slot) (textAt n table slot) (λ row r. text-same r slot)))
       (λ h. rw h refl))

@@ -34,7 +34,7 @@ pub record LinkedChain (d : Directory) (c : Chain) : Type 0 where
 
 abbrev pub ChainAnswer : Directory → Answer Chain → Type 0
 ChainAnswer d (given c) = LinkedChain d c
-ChainAnswer d (refused f) = (10 ≤ f .number) × (f .number ≤ 11) × (f .carries ≡ 0)
+ChainAnswer d (refused f) = (10 ≤ f .number) × (f .number ≤ 11) × (f .value ≡ 0)
 
 linked-answer : (d : Directory) (p : Pointer) → ChainAnswer d (linkedChain d p)
 linked-answer d p =
@@ -61,7 +61,7 @@ pub record FileChain (len : ℕ) (block : Bytes) (c : Chain) : Type 0 where
 
 abbrev FileAnswer : (len : ℕ) (block : Bytes) (chain : Answer Chain) → Type 0
 FileAnswer len block (given c) = FileChain len block c
-FileAnswer len block (refused f) = (9 ≤ f .number) × (f .number ≤ 11) × (f .carries ≡ 0)
+FileAnswer len block (refused f) = (9 ≤ f .number) × (f .number ≤ 11) × (f .value ≡ 0)
 
 file-answer : (len : ℕ) (block : Bytes) (table : Table) → FileAnswer len block (tableChain len block table)
 unfolding tableChain
@@ -77,5 +77,5 @@ pub chain-given : (len : ℕ) (block : Bytes) (table : Table) (c : Chain) → ta
 chain-given len block table c e = subst (FileAnswer len block) e (file-answer len block table)
 
 pub chain-refused : (len : ℕ) (block : Bytes) (table : Table) (f : Fault) → tableChain len block table ≡ refused f
-    → (9 ≤ f .number) × (f .number ≤ 11) × (f .carries ≡ 0)
+    → (9 ≤ f .number) × (f .number ≤ 11) × (f .value ≡ 0)
 chain-refused len block table f e = subst (FileAnswer len block) e (file-answer len block table)

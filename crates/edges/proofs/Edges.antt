@@ -6,7 +6,7 @@ use Rattle.text.specs.Code.{isCode}
 use Rattle.text.specs.Text.{headSize, wholeSize, isInside, plainText, textIn, readText}
 use Rattle.row.specs.Check.{checkTexts, checkRow}
 use Rattle.row.specs.Slot.{slotText}
-use Rattle.page.specs.Header.{headerAgrees, rowless, entries}
+use Rattle.page.specs.Header.{numberAgrees, typeAgrees, rowless, entries}
 use Rattle.page.specs.Index.{indexSize}
 use Rattle.page.specs.Read.{indexFits, indexGood, readPage}
 use Rattle.intake.specs.Length.{allowedLength}
@@ -16,6 +16,6 @@ use Rattle.edges.specs.Cases.{cases, AllHold}
 
 pub edges : AllHold cases
 unfolding le16 le24 le32 holdsCodes headSize wholeSize isInside isCode plainText textIn readText checkTexts checkRow slotText
-    headerAgrees rowless entries indexSize indexFits indexGood readPage allowedLength checkLengths opening
+    numberAgrees typeAgrees rowless entries indexSize indexFits indexGood readPage allowedLength checkLengths opening
 edges =
     (refl, (refl, (refl, (refl, (refl, (refl, (refl, (refl, (refl, (refl, (refl, (refl, (refl, (refl, (refl, tt)))))))))))))))

@@ -5,13 +5,14 @@ use mathlib.Core.List.{List, [], _∷_}
 use Prim.Native.Nat.{ℕ, _<_}
 use lib.ListN.{length, replicate}
 use lib.Seq.{sets}
-use Rattle.lists.specs.Alias.{Bytes, Places}
+use Rattle.lists.specs.Alias.{Bytes}
 use Rattle.number.specs.Number.{byteAt}
 use Rattle.refusal.specs.Fault.{fault}
 use Rattle.refusal.specs.Answer.{given, refused}
 use Rattle.table.specs.declared.Table.{Table}
 use Rattle.page.specs.Header.{headerAgrees, rowless, entries, num-rows}
 use Rattle.page.specs.Index.{presentFrom}
+use Rattle.page.specs.Found.{Rows}
 use Rattle.page.specs.Read.{readPage}
 use Rattle.edges.specs.Cases.{Outcome, counts, rows, refusal, Case, _is_, genrePage, pageReads}
 
@@ -70,7 +71,7 @@ countCases =
 -- Rule 9.18
 pub record EveryCount : Type 0 where
   -- a page that is read, other than one with flag `40`, has as many rows as it counts
-  pub counted : (number : ℕ) (table : Table) (page : Bytes) (rows : Places) → readPage number table page ≡ given rows → rowless page ≡ false
+  pub counted : (number : ℕ) (table : Table) (page : Bytes) (rows : Rows) → readPage number table page ≡ given rows → rowless page ≡ false
       → length rows ≡ num-rows page
   -- more than 2,047 present rows are refused, whatever the page counts
   pub tooMany : (number : ℕ) (table : Table) (page : Bytes) → ((i : ℕ) → byteAt page i < 256) → headerAgrees number table page ≡ true → rowless page ≡ false

@@ -1,4 +1,5 @@
 pub mod Cases
 pub mod Counts
+pub mod Entries
 pub mod Codes
 pub mod Packets

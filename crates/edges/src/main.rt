@@ -1,5 +1,6 @@
-// Runs cases of rules 9.1 to 9.4 and 9.17 and writes a line for each: C1 to C3 and a file of 32,768 bytes, a page of no entries,
-// C5 and C6, row counts, C9 to C12, and the other two strings. C4 is a theorem alone.
+// Runs cases of rules 9.1 to 9.4, 9.17 and 9.19 and writes a line for each: C1 to C3 and a file of 32,768 bytes, a page of no
+// entries, C5 and C6, row counts, entries of faults, wrong halves of a header, C9 to C12, and the other two strings. C4 is a
+// theorem alone.
 use intake::Opened;
 use libc::STDOUT_FILENO;
 use page::PageRead;
@@ -48,7 +49,7 @@ fn set_header(page: &mut [u8], counts: u32) {
 fn say_page(page: &mut [u8], counts: u32) {
     set_header(page, counts);
     match page::read(page, 1, Table::Genres) {
-        PageRead::Rows(rows) => say(b"rows ", rows as u64),
+        PageRead::Counted(rows) => say(b"rows ", rows as u64),
         PageRead::Refused(refusal) => say_refused(refusal),
     }
 }
@@ -86,11 +87,11 @@ fn say_name(row: &[u8]) {
                     len,
                     encoding: _,
                 } => say_part(row, place, len),
-                Text::Malformed => say_refused(Refusal::TextFault(1)),
+                Text::Malformed => say_refused(Refusal::TextFault { page: 1, entry: 0 }),
             }
         }
-        Check::RowFault => say_refused(Refusal::RowShort(1)),
-        Check::TextFault => say_refused(Refusal::TextFault(1)),
+        Check::RowFault => say_refused(Refusal::RowShort { page: 1, entry: 0 }),
+        Check::TextFault => say_refused(Refusal::TextFault { page: 1, entry: 0 }),
     }
 }
 
@@ -125,6 +126,44 @@ fn bad_names(page: &mut [u8]) {
     say_page(page, 0x2_0011);
 }
 
+// The name is malformed: writes the number of the refusal, and its entry.
+fn say_entry(page: &mut [u8], counts: u32) {
+    set_header(page, counts);
+    match page::read(page, 1, Table::Genres) {
+        PageRead::Counted(rows) => say(b"rows ", rows as u64),
+        PageRead::Refused(refusal) => {
+            let fault = refusal.fault();
+            say(b"refused ", fault.number as u64);
+            say(b"entry ", fault.entry as u64);
+        }
+    }
+}
+
+// Malformed names where entry 1 of two is present, and entry 16 of 17.
+fn late_entries(page: &mut [u8]) {
+    put(page, 508, 0x02);
+    put(page, 509, 0);
+    say_entry(page, 0x2002);
+    put(page, 508, 0);
+    put(page, 472, 0x01);
+    put(page, 473, 0);
+    say_entry(page, 0x2011);
+}
+
+fn say_header(page: &[u8], number: u32, table: Table) {
+    match page::read(page, number, table) {
+        PageRead::Counted(rows) => say(b"rows ", rows as u64),
+        PageRead::Refused(refusal) => say_refused(refusal),
+    }
+}
+
+// Page 1 of a table of genres, read as another page, for another table, and as both.
+fn headers(page: &[u8]) {
+    say_header(page, 2, Table::Genres);
+    say_header(page, 1, Table::Artists);
+    say_header(page, 2, Table::Artists);
+}
+
 fn names() {
     say_name(&[7, 0, 0, 0, 0x03]);
     say_name(&[7, 0, 0, 0, 0x01]);
@@ -145,6 +184,8 @@ fn main() {
     pages(&mut page);
     counted_pages(&mut page);
     bad_names(&mut page);
+    late_entries(&mut page);
+    headers(&page);
     names();
     more_names();
 }

@@ -1,5 +1,6 @@
 -- The row that an element of a list names (specs/FromList).
 --     ListedRow, listed-found, found-listed    what is known of a row that is found so, and the other way round
+--     listed-page, listed-walked               its page is that of the place, and is held
 --     then-listed                              answers that agree wherever it is found
 --     rows-ranked                              each row that the walk for a table finds is the row of its rank on its page
 --     row-listed                               so a list that begins with the rows found names them
@@ -16,8 +17,9 @@ use Rattle.lists.proofs.Choice.{on, never}
 use Rattle.format.specs.Place.{linkable}
 use Rattle.refusal.specs.Answer.{Answer, given, refused, andThen}
 use Rattle.table.specs.declared.Table.{Table}
-use Rattle.page.specs.OneRow.{readRow}
-use Rattle.page.proofs.OneRowAnswer.{read-row-good, start-good}
+use Rattle.page.specs.declared.Row.{Row}
+use Rattle.page.specs.Found.{Rows, places, noRow}
+use Rattle.page.proofs.OneRowAnswer.{row-read, read-row-good, start-good, row-here}
 use Rattle.bitmap.specs.Bit.{bit}
 use Rattle.intake.specs.Private.{Sound}
 use Rattle.intake.specs.Memory.{Memory, blockAt}
@@ -29,7 +31,7 @@ use Rattle.chain.specs.Held.{pageHeld}
 use Rattle.chain.specs.File.{pagePart}
 use Rattle.chain.proofs.Linkable.{inside-both, both-inside}
 use Rattle.listed.specs.Rank.{pageOf, runBefore, rank}
-use Rattle.listed.specs.Listed.{readElement, listedPlace}
+use Rattle.listed.specs.Listed.{readElement, listedRow}
 use Rattle.listed.proofs.RunsInRows.{run-front}
 use Rattle.listed.proofs.RowsRanked.{RowThere, RowsThere, rows-there}
 use Rattle.table_walk.specs.Walk.{pageSize, tableWalk}
@@ -40,12 +42,10 @@ use Rattle.table_walk.proofs.PageWalked.{PageWalked}
 use Rattle.export.proofs.FoundRow.{FoundRow}
 use Rattle.export.proofs.TablePlaces.{allowed-file}
 
-pub record ListedRow (len : ℕ) (m : Memory) (table : Table) (list : Places) (i place : ℕ) : Type 0 where
+pub record ListedRow (len : ℕ) (m : Memory) (table : Table) (list : Places) (i : ℕ) (row : Row) : Type 0 where
   pub element : i < length list
-  pub named : getD list i 0 ≡ place
-  pub page : PageWalked len m (place / pageSize m)
-  pub read : readRow (place / pageSize m) table (pagePart (pageSize m) (m .image) (place / pageSize m)) (place % pageSize m) (rank (pageSize m) list i)
-      ≡ given tt
+  pub page : PageWalked len m (pageOf (pageSize m) list i)
+  pub read : readElement (pageSize m) table (m .image) list i ≡ given row
 
 module _ (len : ℕ) (m : Memory) (table : Table) (list : Places) (i : ℕ) where
   abbrev size : ℕ
@@ -55,16 +55,14 @@ module _ (len : ℕ) (m : Memory) (table : Table) (list : Places) (i : ℕ) wher
   number = pageOf size list i
 
   -- element i is read from this page
-  row-there : (place : ℕ) → bit (m .map) 0 ≡ true → headerHolds len (blockAt (m .image) 0) ≡ true → leb (length list) i ≡ false
-      → linkable (len / size) number ≡ true → pageHeld size (m .map) number ≡ true → (answer : Answer (Unit {0})) → readElement size table (m .image) list i ≡ answer
-      → andThen answer (λ _. given (found (getD list i 0))) ≡ given (found place) → ListedRow len m table list i place
-  row-there place b h e l p (given tt) r q =
-      let named : getD list i 0 ≡ place = cc in
+  row-there : (row : Row) → bit (m .map) 0 ≡ true → headerHolds len (blockAt (m .image) 0) ≡ true → leb (length list) i ≡ false
+      → linkable (len / size) number ≡ true → pageHeld size (m .map) number ≡ true → (answer : Answer Row) → readElement size table (m .image) list i ≡ answer
+      → andThen answer (λ own. given (found own)) ≡ given (found row) → ListedRow len m table list i row
+  row-there row b h e l p (given own) r q =
+      let same : own ≡ row = cc in
       let inside = inside-both (len / size) number l in
-      rw (sym named)
       record {
         element = leb-false (length list) i e;
-        named = refl;
         page = record {
           first = b;
           header = h;
@@ -72,37 +70,46 @@ module _ (len : ℕ) (m : Memory) (table : Table) (list : Places) (i : ℕ) wher
           inside = record { whole = good-header len (blockAt (m .image) 0) h .whole; inside = inside .1 };
           held = p;
         };
-        read = r;
+        read = r ∙ ap given same;
       }
-  row-there place b h e l p (refused f) r q = never (cc)
+  row-there row b h e l p (refused f) r q = never (cc)
 
-  pub listed-found : (place : ℕ) → tableListed len m list i table ≡ given (found place) → ListedRow len m table list i place
-  unfolding tableListed listedPlace
-  listed-found place q =
+  pub listed-found : (row : Row) → tableListed len m list i table ≡ given (found row) → ListedRow len m table list i row
+  unfolding tableListed listedRow
+  listed-found row q =
       on (bit (m .map) 0)
       (λ b. on (headerHolds len (blockAt (m .image) 0))
       (λ h. on (leb (length list) i) (λ e. never (cc (rw (b, h, e) at q)))
       (λ e. on (linkable (len / size) number)
       (λ l. on (pageHeld size (m .map) number)
-      (λ p. row-there place b h e l p (readElement size table (m .image) list i) refl (rw (b, h, e, l, p) at q))
+      (λ p. row-there row b h e l p (readElement size table (m .image) list i) refl (rw (b, h, e, l, p) at q))
       (λ p. never (cc (rw (b, h, e, l, p) at q))))
       (λ l. never (cc (rw (b, h, e, l) at q)))))
       (λ h. never (cc (rw (b, h) at q))))
       (λ b. never (cc (rw b at q)))
 
-  pub found-listed : {place : ℕ} → ListedRow len m table list i place → tableListed len m list i table ≡ given (found place)
-  unfolding tableListed listedPlace
-  found-listed {place} r =
-      let linked = both-inside (len / size) (place / size) (r .page .later) (r .page .inside .inside) in
-      rw (r .page .first, r .page .header, lt-leb (length list) i (r .element), r .named, linked, r .page .held, r .read)
+  pub found-listed : {row : Row} → ListedRow len m table list i row → tableListed len m list i table ≡ given (found row)
+  unfolding tableListed listedRow
+  found-listed {row} r =
+      let linked = both-inside (len / size) number (r .page .later) (r .page .inside .inside) in
+      rw (r .page .first, r .page .header, lt-leb (length list) i (r .element), linked, r .page .held, r .read)
+
+  -- its page is the one that the element's place lies on
+  pub listed-page : {row : Row} → ListedRow len m table list i row → row .page ≡ number
+  listed-page {row} r =
+      let page = pagePart size (m .image) number in
+      ap (λ (own : Row). own .page) (row-read number table page (getD list i 0 % size) (rank size list i) row (r .read) .found)
+
+  pub listed-walked : {row : Row} → ListedRow len m table list i row → PageWalked len m (row .page)
+  listed-walked r = rw (listed-page r) (r .page)
 
   -- two answers about the row that agree wherever it is found
-  pub then-listed : {A : Type 0} (f g : ℕ → Answer (Found A)) → ((place : ℕ) → ListedRow len m table list i place → f place ≡ g place)
+  pub then-listed : {A : Type 0} (f g : Row → Answer (Found A)) → ((row : Row) → ListedRow len m table list i row → f row ≡ g row)
       → thenFound (tableListed len m list i table) f ≡ thenFound (tableListed len m list i table) g
   then-listed {A} f g same = by (tableListed len m list i table) refl
     where
-      by : (x : Answer (Found ℕ)) → tableListed len m list i table ≡ x → thenFound x f ≡ thenFound x g
-      by (given (found place)) q = same place (listed-found place q)
+      by : (x : Answer (Found Row)) → tableListed len m list i table ≡ x → thenFound x f ≡ thenFound x g
+      by (given (found row)) q = same row (listed-found row q)
       by (given (waiting page rows pages)) q = refl
       by (refused r) q = refl
 
@@ -113,22 +120,26 @@ module _ (len : ℕ) (m : Memory) (table : Table) (sound : Sound len m) where
       (λ c b q. let known = chain-given len (blockAt (m .image) 0) table c q in
       rw (← known .linked .len-page) (rows-there (allowed-file len m table sound c known) table (m .map)))
 
-  pub row-listed : (rows list : Places) (i : ℕ) → i < length rows → length rows ≤ length list
-      → ((j : ℕ) → j < length rows → getD list j 0 ≡ getD rows j 0) → FoundRow len m table (getD rows i 0) → RowThere (pageSize m) (m .image) rows i
-      → tableListed len m list i table ≡ given (found (getD rows i 0))
+  pub row-listed : (rows : Rows) (list : Places) (i : ℕ) → i < length rows → length rows ≤ length list
+      → ((j : ℕ) → j < length rows → getD list j 0 ≡ getD (places (pageSize m) rows) j 0) → FoundRow len m table (getD rows i noRow)
+      → RowThere (pageSize m) (m .image) rows i → tableListed len m list i table ≡ given (found (getD rows i noRow))
   unfolding rank rowPart
-  row-listed rows list i h long same r there =
+  row-listed rows list i h long same r t =
       let size = pageSize m in
-      let place = getD rows i 0 in
-      let page = pagePart size (m .image) (place / size) in
-      let ranks : runBefore size list (pageOf size list i) i ≡ rank size rows i =
-      ap (λ (p : ℕ). runBefore size list (p / size) i) (same i h) ∙ run-front size list rows (place / size) i (λ j l. same j (omega arith)) in
-      let good = start-good (place / size) table page (place % size) (rank size rows i) there in
+      let all = places size rows in
+      let number = pageOf size all i in
+      let page = pagePart size (m .image) number in
+      let start = getD all i 0 % size in
+      let on = ap (λ (row : Row). row .page) (t .same) in
+      let at = row-here page start (rank size all i) (t .there) .1 in
+      let begins : start ≡ getD rows i noRow .start = sym at ∙ ap (λ (row : Row). row .start) (t .same) in
+      let ranks : runBefore size list (pageOf size list i) i ≡ rank size all i =
+      ap (λ (p : ℕ). runBefore size list (p / size) i) (same i h) ∙ run-front size list all number i (λ j l. same j (omega arith)) in
+      let good = start-good page start (rank size all i) (t .there) in
       found-listed len m table list i
       (record {
         element = omega arith;
-        named = same i h;
-        page = r .page;
-        read = rw ranks (read-row-good (place / size) table page (place % size) (rank size rows i)
-            (record { header = r .header; rows = good .0; index = good .1; here = there; good = r .good }));
+        page = rw (same i h, on) (r .page);
+        read = rw (ranks, same i h) (read-row-good number table page start (rank size all i) (getD rows i noRow)
+            (record { header = rw on (r .header); rows = good .0; index = good .1; here = t .there; found = sym (t .same); good = rw (begins, on) (r .good) }));
       })

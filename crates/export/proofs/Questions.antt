@@ -9,10 +9,10 @@ use mathlib.Core.Path.{_≡_, refl, sym, ap, _∙_}
 use mathlib.Core.Bool.{Bool, true, false, cond, not}
 use mathlib.Core.Logic.{_⊎_, inl, inr}
 use mathlib.Core.Option.{none}
-use Prim.Native.Nat.{ℕ, _<_, _/_}
+use Prim.Native.Nat.{ℕ, _<_}
 use native.Mathlib.Omega.{arith}
 use lib.ListN.{length, getD}
-use lib.Dec.{ltb, eqb}
+use lib.Dec.{ltb, eqb, leb·suc-zero}
 use borrow.Author.Tests.{ltb-true, not-false}
 use Rattle.lists.specs.Alias.{Bytes, Places}
 use Rattle.refusal.specs.declared.Fault.{Fault}
@@ -24,27 +24,31 @@ use Rattle.table.specs.declared.Table.the-variants.{Tracks, Genres, Artists, Al
 use Rattle.table.specs.Table.{tableOf, slotCount}
 use Rattle.row.specs.Slot.{slotText}
 use Rattle.row.specs.Record.{readRecord}
+use Rattle.page.specs.declared.Row.{Row}
+use Rattle.page.specs.Found.{Rows, noRow}
+use Rattle.bitmap.specs.Bit.{bit}
+use Rattle.directory.specs.Header.{len-page}
 use Rattle.intake.specs.Private.{Sound}
 use Rattle.intake.specs.Memory.{Memory}
 use Rattle.chain.specs.Walk.{Progress, Walk, full, waiting}
 use Rattle.export.specs.OwnFault.{OwnFault}
 use Rattle.table_walk.specs.Walk.{pageSize, tableWalk}
 use Rattle.export.specs.Rows.{rowsOutcome, rowsAnswer, settleRows, askRows}
-use Rattle.chain.specs.Found as row
+use Rattle.chain.specs.Found as found
 use Rattle.export.specs.Row.{settleRow, rowPart}
-use Rattle.export.specs.Record.{recordAt, tableRecord, askRecord}
+use Rattle.export.specs.Record.{recordOn, recordAt, tableRecord, askRecord}
 use Rattle.export.specs.Text.{textFound, textAt, tableText, askText}
 use Rattle.lists.proofs.Choice.{on, never, cond-agree}
 use Rattle.lists.proofs.Each.{Each, each-at}
 use Rattle.table_walk.proofs.AskedTable.{sound-asked}
-use Rattle.table_walk.proofs.SameBlocks.{SameBlocks, MoreBlocks, same-more}
+use Rattle.table_walk.proofs.SameBlocks.{SameBlocks, MoreBlocks, same-more, first-same}
 use Rattle.table_walk.proofs.TableWalk.{table-walk-same}
 use Rattle.table_walk.proofs.EachFound.{EachFound, found-of}
 use Rattle.export.proofs.FoundRow.{FoundRow, rows-found, row-read-same, row-text}
 
 -- a question that refusals 1 to 4 do not apply to
 module _ (len : ℕ) (m : Memory) (sound : Sound len m) (number : ℕ) where
-  pub rows-asked : (list : Places) → askRows len m number list ≡ settleRows list (andThen (tableOf number) (tableWalk len m))
+  pub rows-asked : (list : Places) → askRows len m number list ≡ settleRows (pageSize m) list (andThen (tableOf number) (tableWalk len m))
   unfolding askRows
   rows-asked list = rw (sound-asked len m number sound)
 
@@ -60,49 +64,63 @@ then-agree : {A : Type 0} (t : Answer Table) {f g : Table → Answer A} → ((ta
 then-agree (given table) e = e table
 then-agree (refused f) e = refl
 
+-- the size of pages counts with block 0 only: without it there is no place to write
+pub by-size : (len : ℕ) (m : Memory) (table : Table) (list : Places) {size : ℕ} → (bit (m .map) 0 ≡ true → pageSize m ≡ size)
+    → settleRows (pageSize m) list (tableWalk len m table) ≡ settleRows size list (tableWalk len m table)
+unfolding tableWalk
+by-size len m table list same =
+    on (bit (m .map) 0) (λ h. ap (λ (size : ℕ). settleRows size list (tableWalk len m table)) (same h)) (λ h. rw (h, leb·suc-zero (length list)))
+
 -- two ways to answer for a row that agree on each row found
-pub settle-same : {A : Type 0} (f g : ℕ → Answer (row.Found A)) (k : ℕ) (w : Walk Places) → EachFound (λ (place : ℕ). f place ≡ g place) w
+pub settle-same : {A : Type 0} (f g : Row → Answer (found.Found A)) (k : ℕ) (w : Walk Rows) → EachFound (λ (row : Row). f row ≡ g row) w
     → settleRow f k w ≡ settleRow g k w
 settle-same {A} f g k = by
   where
-    found : (rows : Places) (other : Answer (row.Found A)) → Each (λ (place : ℕ). f place ≡ g place) rows
-        → cond (not (ltb k (length rows))) other (f (getD rows k 0)) ≡ cond (not (ltb k (length rows))) other (g (getD rows k 0))
-    found rows other e =
+    chosen : (rows : Rows) (other : Answer (found.Found A)) → Each (λ (row : Row). f row ≡ g row) rows
+        → cond (not (ltb k (length rows))) other (f (getD rows k noRow)) ≡ cond (not (ltb k (length rows))) other (g (getD rows k noRow))
+    chosen rows other e =
         cond-agree (not (ltb k (length rows))) (λ _. refl)
-        (λ h. each-at (λ (place : ℕ). f place ≡ g place) rows k 0 e (ltb-true k (length rows) (not-false (ltb k (length rows)) h)))
+        (λ h. each-at (λ (row : Row). f row ≡ g row) rows k noRow e (ltb-true k (length rows) (not-false (ltb k (length rows)) h)))
 
-    by : (w : Walk Places) → EachFound (λ (place : ℕ). f place ≡ g place) w → settleRow f k w ≡ settleRow g k w
-    by (given (full rows pages)) e = found rows (refused (fault 18 0)) e
-    by (given (waiting page rows pages)) e = found rows (given (row.waiting page (length rows) pages)) e
+    by : (w : Walk Rows) → EachFound (λ (row : Row). f row ≡ g row) w → settleRow f k w ≡ settleRow g k w
+    by (given (full rows pages)) e = chosen rows (refused (fault 18 0)) e
+    by (given (waiting page rows pages)) e = chosen rows (given (found.waiting page (length rows) pages)) e
     by (refused r) e = refl
 
 module _ {len : ℕ} {a b : Memory} (soundA : Sound len a) (soundB : Sound len b) where
   module _ (more : MoreBlocks len a b) (table : Table) where
-    -- an answer by what is read from the row, its place and the size of its page
-    rows-read-same : {A : Type 0} (read : (place size : ℕ) (row : Bytes) → A)
+    -- an answer by the row, what is read from it and the size of its page
+    rows-read-same : {A : Type 0} (read : (row : Row) (size : ℕ) (bytes : Bytes) → A)
         → EachFound
-        (λ (place : ℕ). read place (pageSize a) (rowPart (pageSize a) (a .image) place) ≡ read place (pageSize b) (rowPart (pageSize b) (b .image) place))
+        (λ (row : Row). read row (pageSize a) (rowPart (pageSize a) (a .image) row) ≡ read row (pageSize b) (rowPart (pageSize b) (b .image) row))
         (tableWalk len a table)
     rows-read-same read =
-        found-of (FoundRow len a table) _ (tableWalk len a table) (λ place r. row-read-same soundA soundB more place (r .page) (read place)) (rows-found len a table soundA)
+        found-of (FoundRow len a table) _ (tableWalk len a table) (λ row r. row-read-same soundA soundB more row (r .page) (read row)) (rows-found len a table)
 
-    pub records-found-same : EachFound (λ (place : ℕ). recordAt a table place ≡ recordAt b table place) (tableWalk len a table)
-    records-found-same = rows-read-same (λ place size bytes. given (row.found (readRecord table bytes)))
+    pub records-found-same : EachFound (λ (row : Row). recordAt a table row ≡ recordAt b table row) (tableWalk len a table)
+    records-found-same = rows-read-same (λ row size bytes. given (found.found (recordOn (row .page) (row .entry) (readRecord table bytes))))
 
-    pub texts-found-same : (slot : ℕ) → EachFound (λ (place : ℕ). textAt a table slot place ≡ textAt b table slot place) (tableWalk len a table)
-    texts-found-same slot = rows-read-same (λ place size bytes. textFound (place / size) place (slotText table bytes slot))
+    pub texts-found-same : (slot : ℕ) → EachFound (λ (row : Row). textAt a table slot row ≡ textAt b table slot row) (tableWalk len a table)
+    texts-found-same slot = rows-read-same (λ row size bytes. textFound row size (slotText table bytes slot))
+
+    pub sizes-same : (list : Places) → settleRows (pageSize a) list (tableWalk len a table) ≡ settleRows (pageSize b) list (tableWalk len a table)
+    sizes-same list = by-size len a table list (λ h. ap len-page (first-same more soundA soundB h))
 
   module _ (same : SameBlocks len a b) where
     walks : (table : Table) → tableWalk len a table ≡ tableWalk len b table
     walks table = table-walk-same soundA soundB table same
 
-    settled : {A : Type 0} (table : Table) (f g : ℕ → Answer (row.Found A)) (k : ℕ) → EachFound (λ (place : ℕ). f place ≡ g place) (tableWalk len a table)
+    settled : {A : Type 0} (table : Table) (f g : Row → Answer (found.Found A)) (k : ℕ) → EachFound (λ (row : Row). f row ≡ g row) (tableWalk len a table)
         → settleRow f k (tableWalk len a table) ≡ settleRow g k (tableWalk len b table)
     settled table f g k e = settle-same f g k (tableWalk len a table) e ∙ ap (settleRow g k) (walks table)
 
     pub ask-rows-same : (number : ℕ) (list : Places) → askRows len a number list ≡ askRows len b number list
     ask-rows-same number list =
-        rows-asked len a soundA number list ∙ ap (settleRows list) (then-agree (tableOf number) walks) ∙ sym (rows-asked len b soundB number list)
+        rows-asked len a soundA number list ∙ by (tableOf number) ∙ sym (rows-asked len b soundB number list)
+      where
+        by : (t : Answer Table) → settleRows (pageSize a) list (andThen t (tableWalk len a)) ≡ settleRows (pageSize b) list (andThen t (tableWalk len b))
+        by (given table) = sizes-same (same-more same) table list ∙ ap (settleRows (pageSize b) list) (walks table)
+        by (refused f) = refl
 
     pub ask-record-same : (number k : ℕ) → askRecord len a number k ≡ askRecord len b number k
     ask-record-same number k =
@@ -133,9 +151,18 @@ table-eight n =
     (or-eight (eqb n 4) Labels _ (or-eight (eqb n 5) Keys _ (or-eight (eqb n 6) Colors _ (or-eight (eqb n 7) PlaylistTree _
     (or-eight (eqb n 8) PlaylistEntries _ (or-eight (eqb n 13) Artwork _ refl)))))))))
 
-not-own : {A : Type 0} (n carries : ℕ) (f : Fault) → fault n carries ≡ f → OwnFault f → (n < 9) ⊎ (16 < n) → A
-not-own n carries f e own (inl h) = let z : n ≡ f .number = ap (λ (g : Fault). g .number) e in absurd (omega (arith, own .least))
-not-own n carries f e own (inr h) = let z : n ≡ f .number = ap (λ (g : Fault). g .number) e in absurd (omega (arith, own .most))
+-- a number below 9, or above 16 and below 25
+not-own : {A : Type 0} (n value : ℕ) (f : Fault) → fault n value ≡ f → OwnFault f → (n < 9) ⊎ ((16 < n) × (n < 25)) → A
+not-own n value f e own other = by own other
+  where
+    same : n ≡ f .number
+    same = ap (λ (g : Fault). g .number) e
+
+    by : {B : Type 0} → OwnFault f → (n < 9) ⊎ ((16 < n) × (n < 25)) → B
+    by (inl k) (inl h) = absurd (omega (arith, same, k .0))
+    by (inl k) (inr h) = absurd (omega (arith, same, k .1, h .0))
+    by (inr k) (inl h) = absurd (omega (arith, same, k))
+    by (inr k) (inr h) = absurd (omega (arith, same, k, h .1))
 
 -- the walk of the table that is asked for is refused by f
 pub record TableRefused (len : ℕ) (m : Memory) (number : ℕ) (f : Fault) : Type 0 where
@@ -144,39 +171,39 @@ pub record TableRefused (len : ℕ) (m : Memory) (number : ℕ) (f : Fault) : Ty
   pub walked : tableWalk len m table ≡ refused f
 
 -- 17 is none of the file's own faults
-rows-own : (list : Places) (f : Fault) → OwnFault f → (w : Walk Places) → rowsAnswer list w ≡ refused f → w ≡ refused f
+rows-own : (list : Places) (f : Fault) → OwnFault f → (w : Walk Rows) → rowsAnswer list w ≡ refused f → w ≡ refused f
 rows-own list f own = by
   where
     short : {A : Type 0} (n : ℕ) (progress : Progress ℕ) → cond (ltb (length list) n) (refused (fault 17 n)) (given progress) ≡ refused f → A
     short n progress e =
-        on (ltb (length list) n) (λ h. let z = rw h at e in not-own 17 n f (cc) own (inr (omega arith))) (λ h. never (cc (rw h at e)))
+        on (ltb (length list) n) (λ h. let z = rw h at e in not-own 17 n f (cc) own (inr (omega arith, omega arith))) (λ h. never (cc (rw h at e)))
 
-    by : (w : Walk Places) → rowsAnswer list w ≡ refused f → w ≡ refused f
+    by : (w : Walk Rows) → rowsAnswer list w ≡ refused f → w ≡ refused f
     by (given (full rows pages)) e = short (length rows) (full (length rows) pages) e
     by (given (waiting page rows pages)) e = short (length rows) (waiting page (length rows) pages) e
     by (refused g) e = cc
 
 -- where a found row is never refused, a refusal by the file's own is the walk's: 18 is none of them
-settle-own : {A : Type 0} (answer : ℕ → Answer (row.Found A)) (k : ℕ) (f : Fault) → OwnFault f
-    → (w : Walk Places) → EachFound (λ (place : ℕ). answer place ≡ refused f → ⊥) w → settleRow answer k w ≡ refused f → w ≡ refused f
+settle-own : {A : Type 0} (answer : Row → Answer (found.Found A)) (k : ℕ) (f : Fault) → OwnFault f
+    → (w : Walk Rows) → EachFound (λ (row : Row). answer row ≡ refused f → ⊥) w → settleRow answer k w ≡ refused f → w ≡ refused f
 settle-own {A} answer k f own = by
   where
-    Given : ℕ → Type 0
-    Given place = answer place ≡ refused f → ⊥
+    Given : Row → Type 0
+    Given row = answer row ≡ refused f → ⊥
 
-    found : {B : Type 0} (rows : Places) (other : Answer (row.Found A)) → Each Given rows → (other ≡ refused f → B)
-        → cond (not (ltb k (length rows))) other (answer (getD rows k 0)) ≡ refused f → B
-    found rows other each otherwise e =
-        on (ltb k (length rows)) (λ h. absurd (each-at Given rows k 0 each (ltb-true k (length rows) h) (rw h at e))) (λ h. otherwise (rw h at e))
+    chosen : {B : Type 0} (rows : Rows) (other : Answer (found.Found A)) → Each Given rows → (other ≡ refused f → B)
+        → cond (not (ltb k (length rows))) other (answer (getD rows k noRow)) ≡ refused f → B
+    chosen rows other each otherwise e =
+        on (ltb k (length rows)) (λ h. absurd (each-at Given rows k noRow each (ltb-true k (length rows) h) (rw h at e))) (λ h. otherwise (rw h at e))
 
-    by : (w : Walk Places) → EachFound Given w → settleRow answer k w ≡ refused f → w ≡ refused f
-    by (given (full rows pages)) each e = found rows (refused (fault 18 0)) each (λ z. not-own 18 0 f (cc) own (inr (omega arith))) e
-    by (given (waiting page rows pages)) each e = found rows (given (row.waiting page (length rows) pages)) each (λ z. never (cc)) e
+    by : (w : Walk Rows) → EachFound Given w → settleRow answer k w ≡ refused f → w ≡ refused f
+    by (given (full rows pages)) each e = chosen rows (refused (fault 18 0)) each (λ z. not-own 18 0 f (cc) own (inr (omega arith, omega arith))) e
+    by (given (waiting page rows pages)) each e = chosen rows (given (found.waiting page (length rows) pages)) each (λ z. never (cc)) e
     by (refused g) each e = cc
 
-text-given : (page place : ℕ) (text : Answer TextAt) (f : Fault) → faultIn text ≡ none → textFound page place text ≡ refused f → ⊥
-text-given page place (given t) f e r = never (cc)
-text-given page place (refused g) f e r = never (cc)
+text-given : (row : Row) (size : ℕ) (text : Answer TextAt) (f : Fault) → faultIn text ≡ none → textFound row size text ≡ refused f → ⊥
+text-given row size (given t) f e r = never (cc)
+text-given row size (refused g) f e r = never (cc)
 
 module _ (len : ℕ) (m : Memory) (sound : Sound len m) (number : ℕ) (f : Fault) where
   -- what a table's question is refused by, its walk is: 8 is none of the file's own faults
@@ -188,10 +215,10 @@ module _ (len : ℕ) (m : Memory) (sound : Sound len m) (number : ℕ) (f : Faul
       by (given table) q eight r = record { table = table; asked = q; walked = walked table r }
       by (refused g) q eight r = not-own 8 0 f (cc) own (inl (omega arith))
 
-  found-given : {A : Type 0} (table : Table) (answer : ℕ → Answer (row.Found A)) → ((place : ℕ) → FoundRow len m table place → answer place ≡ refused f → ⊥)
-      → EachFound (λ (place : ℕ). answer place ≡ refused f → ⊥) (tableWalk len m table)
+  found-given : {A : Type 0} (table : Table) (answer : Row → Answer (found.Found A)) → ((row : Row) → FoundRow len m table row → answer row ≡ refused f → ⊥)
+      → EachFound (λ (row : Row). answer row ≡ refused f → ⊥) (tableWalk len m table)
   found-given table answer each =
-      found-of (FoundRow len m table) (λ (place : ℕ). answer place ≡ refused f → ⊥) (tableWalk len m table) each (rows-found len m table sound)
+      found-of (FoundRow len m table) (λ (row : Row). answer row ≡ refused f → ⊥) (tableWalk len m table) each (rows-found len m table)
 
   pub own-rows : (list : Places) → askRows len m number list .answer ≡ refused f → OwnFault f → TableRefused len m number f
   own-rows list e own =
@@ -201,22 +228,22 @@ module _ (len : ℕ) (m : Memory) (sound : Sound len m) (number : ℕ) (f : Faul
   pub own-record : (k : ℕ) → askRecord len m number k ≡ refused f → OwnFault f → TableRefused len m number f
   own-record k e own =
       asked-own (tableRecord len m k)
-      (λ table r. settle-own (recordAt m table) k f own (tableWalk len m table) (found-given table (recordAt m table) (λ place found z. never (cc))) r)
+      (λ table r. settle-own (recordAt m table) k f own (tableWalk len m table) (found-given table (recordAt m table) (λ row known z. never (cc))) r)
       own (sym (record-asked len m sound number k) ∙ e)
 
   pub own-text : (k slot : ℕ) → askText len m number k slot ≡ refused f → OwnFault f → TableRefused len m number f
   own-text k slot e own = asked-own (tableText len m k slot) walked own (sym (text-asked len m sound number k slot) ∙ e)
     where
-      good : (table : Table) → slot < slotCount table → (place : ℕ) → FoundRow len m table place → textAt m table slot place ≡ refused f → ⊥
-      good table h place found z =
-          text-given (place / pageSize m) place (slotText table (rowPart (pageSize m) (m .image) place) slot) f (row-text found slot h) z
+      good : (table : Table) → slot < slotCount table → (row : Row) → FoundRow len m table row → textAt m table slot row ≡ refused f → ⊥
+      good table h row known z =
+          text-given row (pageSize m) (slotText table (rowPart (pageSize m) (m .image) row) slot) f (row-text known slot h) z
 
       walked : (table : Table) → tableText len m k slot table ≡ refused f → tableWalk len m table ≡ refused f
       walked table r =
           on (ltb slot (slotCount table))
           (λ h. settle-own (textAt m table slot) k f own (tableWalk len m table)
           (found-given table (textAt m table slot) (good table (ltb-true slot (slotCount table) h))) (rw h at r))
-          (λ h. let z = rw h at r in not-own 19 0 f (cc) own (inr (omega arith)))
+          (λ h. let z = rw h at r in not-own 19 0 f (cc) own (inr (omega arith, omega arith)))
 
   module _ (t : TableRefused len m number f) where
     pub refused-rows : (list : Places) → askRows len m number list ≡ rowsOutcome (refused f) list

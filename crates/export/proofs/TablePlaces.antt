@@ -31,13 +31,13 @@ use Rattle.directory.specs.Chain.{chainIn, tableChain}
 use Rattle.chain.specs.Walk.{Progress, waiting}
 use Rattle.chain.specs.Tally.{tally}
 use Rattle.chain.specs.Along.{rowsAlong}
-use Rattle.chain.specs.File.{placesAlong}
-use Rattle.chain.specs.Chain.{chainPlaces}
+use Rattle.page.specs.Found.{Rows, noRow}
+use Rattle.chain.specs.Chain.{chainRows, chainPlaces}
 use Rattle.table_walk.specs.Walk.{pageSize, tableWalk, walkDirectory}
 use Rattle.export.specs.Rows.{rowsOutcome, rowsCounted, settleRows}
 use Rattle.export.specs.Row.{settleRow}
 use Rattle.chain.specs.Found.{Found}
-use Rattle.export.specs.Private.{RowPlace, rowAt, atPlace}
+use Rattle.export.specs.Private.{SizedRow, rowAt, atRow}
 use Rattle.lists.proofs.Choice.{on, never, both-true}
 use Rattle.intake.proofs.RulesPassed.{sound-accepted}
 use Rattle.directory.proofs.ChainAnswer.{FileChain, chain-given}
@@ -51,10 +51,10 @@ allowed-short len e =
     let rest = both-true (eqb (len % blockSize) 0) (leb blockSize len && leb len longest) e .1 in
     leb-true len longest (both-true (leb blockSize len) (leb len longest) rest .1)
 
-no-places : (image : Bytes) (chain : Answer Chain) → chainPlaces image 0 chain ≡ []
-unfolding placesAlong rowsAlong
-no-places image (given c) = refl
-no-places image (refused f) = refl
+no-rows : (image : Bytes) (chain : Answer Chain) → (chainRows image 0 chain ≡ []) × (chainPlaces image 0 chain ≡ [])
+unfolding rowsAlong
+no-rows image (given c) = (refl, refl)
+no-rows image (refused f) = (refl, refl)
 
 module _ (len : ℕ) (m : Memory) (table : Table) where
   pub allowed-file : Sound len m → (c : Chain) → FileChain len (blockAt (m .image) 0) c → AllowedFile c (m .image)
@@ -66,16 +66,17 @@ module _ (len : ℕ) (m : Memory) (table : Table) where
       record { inside = omega (arith, pages, a .imageLong); short = omega (arith, pages, allowed-short len (a .allowed)) }
 
   pub table-placed : Sound len m
-      → Placed (λ (pages : ℕ). chainPlaces (m .image) pages (chainIn (walkDirectory len m) table)) (tableWalk len m table)
+      → Placed (pageSize m) (λ (pages : ℕ). chainRows (m .image) pages (chainIn (walkDirectory len m) table))
+      (λ (pages : ℕ). chainPlaces (m .image) pages (chainIn (walkDirectory len m) table)) (tableWalk len m table)
   unfolding tableWalk walkDirectory readHeader tableChain
   table-placed ok =
       let block = blockAt (m .image) 0 in
       on (bit (m .map) 0)
       (λ b. on (headerHolds len block)
-      (λ h. rw (b, h) (chain-placed table (m .image) (m .map) (chainIn (fileDirectory len block) table)
-      (λ c e. allowed-file ok c (chain-given len block table c (rw h e)))))
+      (λ h. rw (b, h) (chain-placed (pageSize m) table (m .image) (m .map) (chainIn (fileDirectory len block) table)
+      (λ c e. let known = chain-given len block table c (rw h e) in (allowed-file ok c known, known .linked .len-page))))
       (λ h. rw (b, h) tt))
-      (λ b. rw b (no-places (m .image) (chainIn noDirectory table)))
+      (λ b. rw b (no-rows (m .image) (chainIn noDirectory table)))
 
   row-size : {progress : Progress ℕ} (k : ℕ) → given progress ≡ tally (tableWalk len m table) → k < rowsCounted progress
       → walkDirectory len m .«len_page» ≡ pageSize m
@@ -87,19 +88,21 @@ module _ (len : ℕ) (m : Memory) (table : Table) where
 
   module _ (ok : Sound len m) {d : Directory} (e : d ≡ walkDirectory len m) {progress : Progress ℕ}
       (w : given progress ≡ tally (tableWalk len m table)) where
-    abbrev filled : Places
-    filled = chainPlaces (m .image) (pagesCounted progress) (chainIn d table)
+    abbrev placesOf : ℕ → Places
+    placesOf pages = chainPlaces (m .image) pages (chainIn (walkDirectory len m) table)
 
-    abbrev places : ℕ → Places
-    places pages = chainPlaces (m .image) pages (chainIn (walkDirectory len m) table)
+    abbrev rowsOf : ℕ → Rows
+    rowsOf pages = chainRows (m .image) pages (chainIn (walkDirectory len m) table)
 
-    pub table-rows : (list : Places) {after : Places} → rowsCounted progress ≤ length list → after ≡ written list filled
-        → rowsOutcome (given progress) after ≡ settleRows list (tableWalk len m table)
-    table-rows list h a = rows-long list places (tableWalk len m table) w h (table-placed ok) (rw e at a)
+    pub table-rows : (list : Places) {after : Places} → rowsCounted progress ≤ length list
+        → after ≡ written list (chainPlaces (m .image) (pagesCounted progress) (chainIn d table))
+        → rowsOutcome (given progress) after ≡ settleRows (pageSize m) list (tableWalk len m table)
+    table-rows list h a = rows-long (pageSize m) list rowsOf placesOf (tableWalk len m table) w h (table-placed ok) (rw e at a)
 
-    pub table-row : (k : ℕ) {r : Answer (Found RowPlace)} → k < rowsCounted progress → r ≡ atPlace (d .«len_page») (nth filled k 0)
+    pub table-row : (k : ℕ) {r : Answer (Found SizedRow)} → k < rowsCounted progress
+        → r ≡ atRow (d .«len_page») (nth noRow (chainRows (m .image) (pagesCounted progress) (chainIn d table)) k 0)
         → r ≡ settleRow (rowAt (pageSize m)) k (tableWalk len m table)
     table-row k h a =
         rw e at a
-        ∙ ap (λ (size : ℕ). atPlace size (nth (places (pagesCounted progress)) k 0)) (row-size k w h)
-        ∙ row-found (pageSize m) k places (tableWalk len m table) w h (table-placed ok)
+        ∙ ap (λ (size : ℕ). atRow size (nth noRow (rowsOf (pagesCounted progress)) k 0)) (row-size k w h)
+        ∙ row-found (pageSize m) k rowsOf placesOf (tableWalk len m table) w h (table-placed ok)

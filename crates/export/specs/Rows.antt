@@ -7,12 +7,13 @@ use Rattle.lists.specs.Alias.{Places}
 use Rattle.refusal.specs.Fault.{fault}
 use Rattle.refusal.specs.Answer.{given, refused, refuseIf, andThen}
 use Rattle.lists.specs.Write.{written}
+use Rattle.page.specs.Found.{Rows, places}
 use Rattle.intake.specs.Memory.{Memory}
 use Rattle.chain.specs.declared.Walked.{Walked}
 use Rattle.chain.specs.Walk.{Progress, Walk, full, waiting}
 use Rattle.chain.specs.Tally.{tally, walkedOf}
 use Rattle.table_walk.specs.Asked.{askedTable}
-use Rattle.table_walk.specs.Walk.{tableWalk}
+use Rattle.table_walk.specs.Walk.{pageSize, tableWalk}
 
 pub record RowsOutcome : Type 0 where
   pub answer : Walk ℕ
@@ -31,29 +32,29 @@ abbrev pub rowsWritten : Walk ℕ → ℕ
 rowsWritten (given progress) = rowsCounted progress
 rowsWritten (refused f) = 0
 
--- the places of the rows found
-abbrev pub rowsFound : Walk Places → Places
+-- the rows found
+abbrev pub rowsFound : Walk Rows → Rows
 rowsFound (given (full rows pages)) = rows
 rowsFound (given (waiting page rows pages)) = rows
 rowsFound (refused f) = []
 
 -- Rule 5.20: 17 comes behind the walk's own refusals
-abbrev pub rowsAnswer : Places → Walk Places → Walk ℕ
+abbrev pub rowsAnswer : Places → Walk Rows → Walk ℕ
 rowsAnswer list walk =
     andThen (tally walk) (λ progress.
     refuseIf (ltb (length list) (rowsCounted progress)) (fault 17 (rowsCounted progress))
     (given progress))
 
--- Rules 2.22 and 4.10: a refusal leaves the list
-abbrev pub listAfter : (list : Places) (walk : Walk Places) (answer : Walk ℕ) → Places
-listAfter list walk (given progress) = written list (rowsFound walk)
-listAfter list walk (refused f) = list
+-- Rules 2.22 and 4.10: the rows' places are written, where pages have size bytes; a refusal leaves the list
+abbrev pub listAfter : (size : ℕ) (list : Places) (walk : Walk Rows) (answer : Walk ℕ) → Places
+listAfter size list walk (given progress) = written list (places size (rowsFound walk))
+listAfter size list walk (refused f) = list
 
-abbrev pub settleRows : Places → Walk Places → RowsOutcome
-settleRows list walk = rowsOutcome (rowsAnswer list walk) (listAfter list walk (rowsAnswer list walk))
+abbrev pub settleRows : (size : ℕ) → Places → Walk Rows → RowsOutcome
+settleRows size list walk = rowsOutcome (rowsAnswer list walk) (listAfter size list walk (rowsAnswer list walk))
 
 unfoldable pub askRows : (len : ℕ) (m : Memory) (number : ℕ) (list : Places) → RowsOutcome
-askRows len m number list = settleRows list (andThen (askedTable len m number) (tableWalk len m))
+askRows len m number list = settleRows (pageSize m) list (andThen (askedTable len m number) (tableWalk len m))
 
 -- the answer for each case of the code's enum, and the list afterwards
 abbrev pub rowsOf : Walked → Places → RowsOutcome

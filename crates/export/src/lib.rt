@@ -1,13 +1,12 @@
 // The three questions: all rows of a table, record k of a table, and a string of record k; and reading from the list of
 // places that the first of them wrote.
 ghost use mathlib.Core.Path.{_≡_};
-ghost use mathlib.Core.Option.{none};
-ghost use Prim.Native.Nat.{_/_};
 ghost use Rattle.lists.specs.Nth.{nth};
 ghost use Rattle.intake.specs.Memory.{memory};
 ghost use Rattle.intake.specs.Private.{Sound};
 ghost use Rattle.directory.specs.Chain.{chainIn};
-ghost use Rattle.chain.specs.Chain.{chainPlaces};
+ghost use Rattle.page.specs.Found.{noRow};
+ghost use Rattle.chain.specs.Chain.{chainRows};
 ghost use Rattle.chain.specs.Found.{thenFound};
 ghost use Rattle.listed.specs.Listed.{listedOf};
 ghost use Rattle.table_walk.specs.Walk.{pageSize, tableWalk};
@@ -16,12 +15,14 @@ ghost use Rattle.export.specs.Row.{settleRow, rowPart};
 ghost use Rattle.export.specs.Record.{askRecord, recordReplyOf};
 ghost use Rattle.export.specs.Text.{textOn, askText, textReplyOf};
 ghost use Rattle.export.specs.FromList.{tableListed, askRecordIn, askTextIn};
-ghost use Rattle.export.specs.Private.{rowAt, atPlace, rowReplyOf, recordOn};
-use chain::Place;
+ghost use Rattle.export.specs.Private.{rowAt, atRow, rowReplyOf, recordIn};
 use chain::Walked;
 use directory::Directory;
+use format::Page;
 use intake::Intake;
 use listed::Listed;
+use page::Row;
+use page::RowAt;
 use refusal::Refusal;
 use row::Record;
 use table::Table;
@@ -29,16 +30,23 @@ use table::TableReply;
 use text::Encoding;
 use text::Text;
 
-// Where a row is, and the size of its page; or why it has no place.
+// A row and the size of its page, or why there is none.
 enum RowReply {
-    Found { place: u32, size: u32 },
+    Found { row: Row, size: u32 },
     Waiting { page: u32, rows: usize, pages: u64 },
     Refused(Refusal),
 }
 
+// A record, with the page and the index entry of its row.
+pub struct RowRecord {
+    pub page: u32,
+    pub entry: u16,
+    pub record: Record,
+}
+
 // What a question for a record answers.
 pub enum RecordReply {
-    Found(Record),
+    Found(RowRecord),
     Waiting { page: u32, rows: usize, pages: u64 },
     Refused(Refusal),
 }
@@ -62,7 +70,8 @@ pub enum TextReply {
 fn rows_of(len: u64, image: &[u8], map: &[u64], table: Table, list: &mut [u32]) -> Walked
     requires { ⌜ Sound len (memory (now image) (now map)) ⌝ }
     ensures { λ r. ⌜ rowsOf r (now (list .exit)) ≡
-        settleRows (now (list .entry)) (tableWalk len (memory (now (image .entry)) (now (map .entry))) table) ⌝ }
+        settleRows (pageSize (memory (now (image .entry)) (now (map .entry)))) (now (list .entry))
+        (tableWalk len (memory (now (image .entry)) (now (map .entry))) table) ⌝ }
 {
     let walk = table_walk::walk_table(len, image, map, table);
     let directory = walk.directory;
@@ -101,15 +110,12 @@ pub fn rows(intake: Intake, image: &[u8], map: &[u64], number: u32, list: &mut [
     }
 }
 
-// The own part of the row at a place: from there to its page's row index.
-fn row_part(size: u32, image: &[u8], place: u32) -> &[u8]
-    ensures { λ r. ⌜ now r ≡ rowPart size (now (image .entry)) place ⌝ }
+// The own part of a row: from its start to its page's row index.
+fn row_part(size: u32, image: &[u8], row: Row) -> &[u8]
+    ensures { λ r. ⌜ now r ≡ rowPart size (now (image .entry)) row ⌝ }
 {
-    if size == 0 {
-        return &image[0..0];
-    }
-    let start = (place % size) as usize;
-    let rows = page::before_index(chain::part(image, place / size, size));
+    let start = row.start as usize;
+    let rows = page::before_index(chain::part(image, row.page, size));
     if rows.len() < start {
         return &rows[0..0];
     }
@@ -118,15 +124,15 @@ fn row_part(size: u32, image: &[u8], place: u32) -> &[u8]
 
 // Row k on the first pages of a table's chain, which a walk has counted.
 fn row_at(d: Directory, image: &[u8], table: Table, pages: u64, k: usize) -> RowReply
-    ensures { λ r. ⌜ rowReplyOf r ≡ atPlace (d .«len_page») (nth (chainPlaces (now (image .entry)) pages (chainIn d table)) k 0) ⌝ }
+    ensures { λ r. ⌜ rowReplyOf r ≡ atRow (d .«len_page») (nth noRow (chainRows (now (image .entry)) pages (chainIn d table)) k 0) ⌝ }
 {
-    let place = chain::row(d, table, pages, image, k);
-    match place {
-        Place::At(at) => RowReply::Found {
-            place: at,
+    let found = chain::row(d, table, pages, image, k);
+    match found {
+        RowAt::Found(row) => RowReply::Found {
+            row,
             size: d.len_page,
         },
-        Place::Past(_) => RowReply::Refused(Refusal::NoRow),
+        RowAt::Past(_) => RowReply::Refused(Refusal::NoRow),
     }
 }
 
@@ -161,7 +167,7 @@ fn listed_reply(found: Listed, size: u32) -> RowReply
     ensures { λ r. ⌜ rowReplyOf r ≡ thenFound (listedOf found) (rowAt size) ⌝ }
 {
     match found {
-        Listed::At(place) => RowReply::Found { place, size },
+        Listed::At(row) => RowReply::Found { row, size },
         Listed::Waiting(page) => RowReply::Waiting {
             page,
             rows: 0,
@@ -204,12 +210,14 @@ fn find_listed(
 
 // The record of a row that was looked for.
 fn record_from(table: Table, image: &[u8], found: RowReply) -> RecordReply
-    ensures { λ r. ⌜ recordReplyOf r ≡ thenFound (rowReplyOf found) (recordOn table (now (image .entry))) ⌝ }
+    ensures { λ r. ⌜ recordReplyOf r ≡ thenFound (rowReplyOf found) (recordIn table (now (image .entry))) ⌝ }
 {
     match found {
-        RowReply::Found { place, size } => {
-            RecordReply::Found(row::read_record(table, row_part(size, image, place)))
-        }
+        RowReply::Found { row, size } => RecordReply::Found(RowRecord {
+            page: row.page,
+            entry: row.entry,
+            record: row::read_record(table, row_part(size, image, row)),
+        }),
         RowReply::Waiting { page, rows, pages } => RecordReply::Waiting { page, rows, pages },
         RowReply::Refused(refusal) => RecordReply::Refused(refusal),
     }
@@ -251,42 +259,37 @@ pub fn record_in(
     }
 }
 
-// The page that holds a place, 0 where pages have no bytes.
-fn page_of(size: u32, place: u32) -> u32
-    ensures { λ r. ⌜ r ≡ place / size ⌝ }
+// The text of a slot of a row, where pages have size bytes.
+fn text_at(size: u32, image: &[u8], table: Table, slot: usize, row: Row) -> TextReply
+    ensures { λ r. ⌜ textReplyOf r ≡ textOn size (now (image .entry)) table slot row ⌝ }
 {
-    if size == 0 {
-        return 0;
-    }
-    place / size
-}
-
-// The text of a slot of the row at a place, where pages have size bytes.
-fn text_at(size: u32, image: &[u8], table: Table, slot: usize, place: u32) -> TextReply
-    ensures { λ r. ⌜ textReplyOf r ≡ textOn size (now (image .entry)) table slot place ⌝ }
-{
-    let found = row::slot_text(table, row_part(size, image, place), slot);
+    let page = Page::new(row.page, size);
+    let start = page.start;
+    let found = row::slot_text(table, row_part(size, image, row), slot);
     match found {
         Text::At {
             place: at,
             len,
             encoding,
         } => TextReply::Found {
-            place: (place as usize) + at,
+            place: start + (row.start as usize) + at,
             len,
             encoding,
         },
-        Text::Malformed => TextReply::Refused(Refusal::TextFault(page_of(size, place))),
+        Text::Malformed => TextReply::Refused(Refusal::TextFault {
+            page: row.page,
+            entry: row.entry,
+        }),
     }
 }
 
 // The text of a slot of a row that was looked for.
 fn text_from(table: Table, image: &[u8], slot: usize, found: RowReply) -> TextReply
     ensures { λ r. ⌜ textReplyOf r ≡
-        thenFound (rowReplyOf found) (λ at. textOn (at .size) (now (image .entry)) table slot (at .place)) ⌝ }
+        thenFound (rowReplyOf found) (λ at. textOn (at .size) (now (image .entry)) table slot (at .row)) ⌝ }
 {
     match found {
-        RowReply::Found { place, size } => text_at(size, image, table, slot, place),
+        RowReply::Found { row, size } => text_at(size, image, table, slot, row),
         RowReply::Waiting { page, rows, pages } => TextReply::Waiting { page, rows, pages },
         RowReply::Refused(refusal) => TextReply::Refused(refusal),
     }

@@ -8,15 +8,16 @@ ghost use Rattle.page.specs.OneRow.{readRow};
 ghost use Rattle.chain.specs.Found.{found};
 ghost use Rattle.chain.specs.File.{pagePart};
 ghost use Rattle.listed.specs.Rank.{runBefore};
-ghost use Rattle.listed.specs.Listed.{listedPlace, listedOf};
+ghost use Rattle.listed.specs.Listed.{listedRow, listedOf};
 use format::Page;
+use page::Row;
 use page::RowRead;
 use refusal::Refusal;
 use table::Table;
 
-// The row of an element: its place, or the page that is waited for.
+// The row of an element, or the page that is waited for.
 pub enum Listed {
-    At(u32),
+    At(Row),
     Waiting(u32),
     Refused(Refusal),
 }
@@ -58,13 +59,13 @@ fn run_before(list: &[u32], i: usize, first: u32, size: u32) -> usize
 fn find_on(size: u32, table: Table, image: &[u8], place: u32, rank: usize) -> Listed
     requires { ⌜ 0 < size ⌝ }
     ensures { λ r. ⌜ listedOf r ≡
-        andThen (readRow (place / size) table (pagePart size (now (image .entry)) (place / size)) (place % size) rank) (λ _. given (found place)) ⌝ }
+        andThen (readRow (place / size) table (pagePart size (now (image .entry)) (place / size)) (place % size) rank) (λ row. given (found row)) ⌝ }
 {
     let page = place / size;
-    let start = (place % size) as usize;
+    let start = place % size;
     let read = page::read_row(chain::part(image, page, size), page, table, start, rank);
     match read {
-        RowRead::Good => Listed::At(place),
+        RowRead::Good(row) => Listed::At(row),
         RowRead::Refused(refusal) => Listed::Refused(refusal),
     }
 }
@@ -79,7 +80,7 @@ pub fn find(
     list: &[u32],
     i: usize,
 ) -> Listed
-    ensures { λ r. ⌜ listedOf r ≡ listedPlace size «page_count» table (now (image .entry)) (now (map .entry)) (now (list .entry)) i ⌝ }
+    ensures { λ r. ⌜ listedOf r ≡ listedRow size «page_count» table (now (image .entry)) (now (map .entry)) (now (list .entry)) i ⌝ }
 {
     if list.len() <= i {
         return Listed::Refused(Refusal::NoRow);

@@ -14,7 +14,7 @@ fn say(word: &[u8], n: u64) {
 fn say_refused(refusal: Refusal) {
     let fault = refusal.fault();
     say(b"refused ", fault.number as u64);
-    say(b"carries ", fault.carries);
+    say(b"carries ", fault.value);
 }
 
 fn say_result(result: u32) {

@@ -4,7 +4,7 @@
 --     end            after the last entry
 use mathlib.Core.Path.{_≡_, refl, sym, ap, _∙_}
 use mathlib.Core.Bool.{true, false}
-use mathlib.Core.List.{List, _∷_}
+use mathlib.Core.List.{List}
 use Prim.Native.Nat.{ℕ, suc, _+_, _-_, _<_, _≤_}
 use native.Mathlib.Nat.{sub-zero}
 use native.Mathlib.Numerals.{add-one}
@@ -14,7 +14,7 @@ use lib.Seq.{sets}
 use Rattle.lists.specs.Alias.{Bytes}
 use Rattle.lists.specs.Write.{written}
 use Rattle.page.specs.Index.{present, rowStart, presentFrom}
-use Rattle.page.specs.Read.{places}
+use Rattle.page.specs.Read.{entryPlaces}
 use Rattle.page.proofs.EntriesInside.{entry-absent, entry-present, entry-none}
 
 -- entries before i are done, and their places stand in the list before index at
@@ -23,7 +23,7 @@ pub record Filling (start : ℕ) (page : Bytes) (n : ℕ) (list₀ : List ℕ) (
   pub index : at ≤ i
   pub size : length list ≡ length list₀
   pub count : length (presentFrom page n 0) ≡ at + length (presentFrom page (n - i) i)
-  pub rest : written list₀ (places start (presentFrom page n 0)) ≡ sets list at (places start (presentFrom page (n - i) i))
+  pub rest : written list₀ (entryPlaces start page (presentFrom page n 0)) ≡ sets list at (entryPlaces start page (presentFrom page (n - i) i))
 
 pub begin : (start : ℕ) (page : Bytes) (n : ℕ) (list : List ℕ) → Filling start page n list 0 0 list
 begin start page n list =
@@ -38,17 +38,17 @@ module _ {start : ℕ} {page : Bytes} {n : ℕ} {list₀ : List ℕ} {i at : ℕ
   pub next : {row : ℕ} {list′ : List ℕ} → i < n → present page i ≡ true → row ≡ rowStart page i → list′ ≡ set list at (start + row)
       → Filling start page n list₀ (i + 1) (at + 1) list′
   next {row} {list′} h e s l =
-      let z : presentFrom page (n - i) i ≡ row ∷ presentFrom page (n - (i + 1)) (i + 1) = entry-present page h e ∙ rw s in
+      let z = entry-present page h e in
       let c : length (presentFrom page n 0) ≡ at + suc (length (presentFrom page (n - (i + 1)) (i + 1))) = rw z at (f .count) in
       record {
         entry = omega arith;
         index = omega arith;
         size = ap length l ∙ length-set list at (start + row) ∙ f .size;
         count = omega arith;
-        rest = rw z at (f .rest) ∙ rw (add-one at, l);
+        rest = rw z at (f .rest) ∙ rw (add-one at, l, s);
       }
 
-  pub end : n ≤ i → (at ≡ length (presentFrom page n 0)) × (list ≡ written list₀ (places start (presentFrom page n 0)))
+  pub end : n ≤ i → (at ≡ length (presentFrom page n 0)) × (list ≡ written list₀ (entryPlaces start page (presentFrom page n 0)))
   end h =
       let z = entry-none page n i h in
       let c : length (presentFrom page n 0) ≡ at + 0 = rw z at (f .count) in

@@ -2,71 +2,92 @@
 --     row-read         the header agrees, the index is good, the row is where it is said to be and is good
 --     read-row-good    the other way round
 --     start-good       a page with a row of some rank has rows, and its index is good
+--     row-here         the row of the rank starts there
 --     rank-most        ranks from the page's length on are all alike
 use mathlib.Core.Path.{_≡_, refl}
 use mathlib.Core.Bool.{true, false, false≢true}
-use Prim.Native.Nat.{ℕ, _≤_, min}
+use Prim.Native.Nat.{ℕ, _<_, _≤_, min}
 use native.Mathlib.Nat.{min-eq-left, min-eq-right}
 use native.Mathlib.Omega.{arith}
-use lib.ListN.{length, drop}
-use lib.Dec.{leb}
-use borrow.Author.Tests.{le-ltb, leb-true, leb-false}
+use lib.ListN.{length, drop, getD}
+use lib.Dec.{eqb, leb, ltb, leb·suc-zero}
+use borrow.Author.Tests.{le-ltb, leb-true, leb-false, ltb-true, eqb-true}
 use Rattle.lists.specs.Alias.{Bytes}
-use Rattle.lists.proofs.Choice.{on, never}
-use Rattle.lists.proofs.Nth.{nth-none}
-use Rattle.refusal.specs.Answer.{Answer, given, refused}
+use Rattle.lists.proofs.Choice.{on, never, both-true}
+use Rattle.refusal.specs.Answer.{Answer, given, refused, andThen}
 use Rattle.table.specs.declared.Table.{Table}
 use Rattle.row.specs.Check.{checkRow}
-use Rattle.page.specs.Header.{headerAgrees, rowless}
-use Rattle.page.specs.Read.{indexGood, beforeIndex, rowStarts, onPage}
-use Rattle.page.specs.Row.{pageRow}
-use Rattle.page.specs.OneRow.{isRow, readRow}
-use Rattle.page.proofs.RowStarts.{rows-short}
+use Rattle.page.specs.declared.Row.{Row}
+use Rattle.page.specs.Header.{numberAgrees, typeAgrees, headerAgrees, rowless}
+use Rattle.page.specs.Index.{rowStart}
+use Rattle.page.specs.Read.{indexGood, beforeIndex, rowEntries, checkFound}
+use Rattle.page.specs.OneRow.{rowRanked, isRow, readRow}
+use Rattle.page.proofs.RowEntries.{rows-short}
+use Rattle.page.proofs.PageAnswer.{found-good}
 
-pub record ReadRow (number : ℕ) (table : Table) (page : Bytes) (start rank : ℕ) : Type 0 where
+pub record ReadRow (number : ℕ) (table : Table) (page : Bytes) (start rank : ℕ) (row : Row) : Type 0 where
   pub header : headerAgrees number table page ≡ true
   pub rows : rowless page ≡ false
   pub index : indexGood page ≡ true
   pub here : isRow page start rank ≡ true
+  pub found : row ≡ rowRanked number page rank
   pub good : checkRow table (drop start (beforeIndex page)) ≡ given tt
 
-page-given : (number : ℕ) (answer : Answer (Unit {0})) → onPage number answer ≡ given tt → answer ≡ given tt
-page-given number (given tt) e = refl
-page-given number (refused f) e = never (cc)
+pub row-here : (page : Bytes) (start rank : ℕ) → isRow page start rank ≡ true
+    → (rank < length (rowEntries page)) × (rowStart page (getD (rowEntries page) rank 0) ≡ start)
+unfolding isRow
+row-here page start rank e =
+    let at = rowStart page (getD (rowEntries page) rank 0) in
+    let both = both-true (ltb rank (length (rowEntries page))) (eqb at start) e in
+    (ltb-true rank (length (rowEntries page)) (both .0), eqb-true at start (both .1))
 
-module _ (number : ℕ) (table : Table) (page : Bytes) (start rank : ℕ) where
-  pub row-read : readRow number table page start rank ≡ given tt → ReadRow number table page start rank
+-- a row that was judged without a fault
+judged-good : (row other : Row) (check : Answer (Unit {0})) → andThen check (λ _. given row) ≡ given other → (check ≡ given tt) × (other ≡ row)
+judged-good row other (given tt) e = (refl, cc)
+judged-good row other (refused f) e = never (cc)
+
+module _ (number : ℕ) (table : Table) (page : Bytes) (start rank : ℕ) (row : Row) where
+  judged-row : isRow page start rank ≡ true → andThen (checkFound table (beforeIndex page) (rowRanked number page rank)) (λ _. given (rowRanked number page rank)) ≡ given row
+      → (checkRow table (drop start (beforeIndex page)) ≡ given tt) × (row ≡ rowRanked number page rank)
+  judged-row w e =
+      let own = rowRanked number page rank in
+      let both = judged-good own row (checkFound table (beforeIndex page) own) e in
+      let at : own .start ≡ start = row-here page start rank w .1 in
+      (rw at at (found-good own (checkRow table (drop (own .start) (beforeIndex page))) (both .0)), both .1)
+
+  pub row-read : readRow number table page start rank ≡ given row → ReadRow number table page start rank row
   unfolding readRow
   row-read e =
-      on (headerAgrees number table page)
-      (λ h. on (rowless page) (λ r. never (cc (rw (h, r) at e)))
+      on (numberAgrees number page)
+      (λ h. on (typeAgrees table page)
+      (λ t. on (rowless page) (λ r. never (cc (rw (h, t, r) at e)))
       (λ r. on (indexGood page)
       (λ f. on (isRow page start rank)
-      (λ w. record {
-        header = h;
-        rows = r;
-        index = f;
-        here = w;
-        good = page-given number (checkRow table (drop start (beforeIndex page))) (rw (h, r, f, w) at e);
-      })
-      (λ w. never (cc (rw (h, r, f, w) at e))))
-      (λ f. never (cc (rw (h, r, f) at e)))))
+      (λ w. let own = judged-row w (rw (h, t, r, f, w) at e) in
+      record { header = rw (h, t); rows = r; index = f; here = w; found = own .1; good = own .0 })
+      (λ w. never (cc (rw (h, t, r, f, w) at e))))
+      (λ f. never (cc (rw (h, t, r, f) at e)))))
+      (λ t. never (cc (rw (h, t) at e))))
       (λ h. never (cc (rw h at e)))
 
-  pub read-row-good : ReadRow number table page start rank → readRow number table page start rank ≡ given tt
+  pub read-row-good : ReadRow number table page start rank row → readRow number table page start rank ≡ given row
   unfolding readRow
-  read-row-good g = rw (g .header, g .rows, g .index, g .here, g .good)
+  read-row-good g =
+      let both = both-true (numberAgrees number page) (typeAgrees table page) (g .header) in
+      let at = row-here page start rank (g .here) .1 in
+      rw (both .0, both .1, g .rows, g .index, g .here, g .found, at, g .good)
 
+module _ (page : Bytes) (start rank : ℕ) where
   pub start-good : isRow page start rank ≡ true → (rowless page ≡ false) × (indexGood page ≡ true)
-  unfolding isRow pageRow rowStarts
+  unfolding isRow rowEntries
   start-good e =
-      on (rowless page) (λ r. absurd (false≢true (rw (r, nth-none rank 0) at e)))
-      (λ r. on (indexGood page) (λ f. (r, f)) (λ f. absurd (false≢true (rw (r, f, nth-none rank 0) at e))))
+      on (rowless page) (λ r. absurd (false≢true (rw (r, leb·suc-zero rank) at e)))
+      (λ r. on (indexGood page) (λ f. (r, f)) (λ f. absurd (false≢true (rw (r, f, leb·suc-zero rank) at e))))
 
--- a page has fewer rows than bytes, so a rank from there on is no row's, whichever it is
-no-row : (page : Bytes) (start rank : ℕ) → length page ≤ rank → isRow page start rank ≡ false
-unfolding isRow pageRow
-no-row page start rank h = rw (le-ltb rank (length (rowStarts page)) (omega (arith, rows-short page)))
+  -- a page has fewer rows than bytes, so a rank from there on is no row's, whichever it is
+  no-row : length page ≤ rank → isRow page start rank ≡ false
+  unfolding isRow
+  no-row h = rw (le-ltb rank (length (rowEntries page)) (omega (arith, rows-short page)))
 
 pub rank-most : (number : ℕ) (table : Table) (page : Bytes) (start rank most : ℕ) → length page ≤ most
     → readRow number table page start (min most rank) ≡ readRow number table page start rank

@@ -5,71 +5,85 @@
 --     end             after the last entry
 use mathlib.Core.Path.{_≡_, refl, sym, _∙_}
 use mathlib.Core.Bool.{true, false}
+use mathlib.Core.List.{map}
 use Prim.Native.Nat.{ℕ, suc, _+_, _-_, _<_, _≤_}
 use native.Mathlib.Nat.{sub-zero}
 use native.Mathlib.Omega.{arith}
-use lib.ListN.{length, drop}
-use Rattle.lists.specs.Alias.{Bytes, Places}
+use lib.ListN.{length}
+use Rattle.lists.specs.Alias.{Bytes}
+use Rattle.lists.proofs.Choice.{never}
+use Rattle.refusal.specs.declared.Fault.{Fault}
 use Rattle.refusal.specs.declared.Refusal.{Refusal}
 use Rattle.refusal.specs.Fault.{faultOf}
 use Rattle.refusal.specs.Answer.{Answer, given, refused, andThen}
 use Rattle.table.specs.declared.Table.{Table}
-use Rattle.row.specs.Check.{checkRow}
+use Rattle.page.specs.declared.Row.{Row}
 use Rattle.page.specs.declared.RowRead.{RowRead}
 use Rattle.page.specs.declared.RowRead.the-variants.{Good, Refused}
-use Rattle.page.specs.Index.{present, rowStart, presentFrom}
-use Rattle.page.specs.Read.{checkRows, onPage}
+use Rattle.page.specs.Index.{present, presentFrom}
+use Rattle.page.specs.Found.{Rows, rowOf}
+use Rattle.page.specs.Read.{checkFound, checkRows}
 use Rattle.page.specs.OneRow.{rowReadOf}
-use Rattle.page.specs.Private.{checkedCount}
+use Rattle.page.specs.Private.{checkedCount, judged}
 use Rattle.page.proofs.EntriesInside.{entry-absent, entry-present, entry-none}
 
--- what the rows at these starts answer, with so many found before
-pub countFrom : (number : ℕ) (table : Table) (rows : Bytes) (found : ℕ) (starts : Places) → Answer ℕ
-countFrom number table rows found starts = andThen (onPage number (checkRows table rows starts)) (λ _. given (found + length starts))
+-- the rows of so many entries from i on
+abbrev rowsFrom : (number : ℕ) (page : Bytes) (left i : ℕ) → Rows
+rowsFrom number page left i = map (rowOf number page) (presentFrom page left i)
 
--- the first of two checks of a page's rows, and then the second
-on-page-then : (number : ℕ) (check rest : Answer (Unit {0})) → onPage number (andThen check (λ _. rest)) ≡ andThen (onPage number check) (λ _. onPage number rest)
-on-page-then number (given u) rest = refl
-on-page-then number (refused f) rest = refl
+-- what these rows answer, with so many found before
+pub countFrom : (table : Table) (before : Bytes) (found : ℕ) (rows : Rows) → Answer ℕ
+countFrom table before found rows = andThen (checkRows table before rows) (λ _. given (found + length rows))
 
-pub record Reading (number : ℕ) (table : Table) (page rows : Bytes) (n i found : ℕ) : Type 0 where
+-- a row is good exactly when its check is, and its fault is the check's
+good-check : (row other : Row) (check : Answer (Unit {0})) → given other ≡ andThen check (λ _. given row) → check ≡ given tt
+good-check row other (given tt) e = refl
+good-check row other (refused f) e = never (cc)
+
+fault-check : (row : Row) (f : Fault) (check : Answer (Unit {0})) → refused f ≡ andThen check (λ _. given row) → check ≡ refused f
+fault-check row f (given tt) e = never (cc)
+fault-check row f (refused g) e = cc
+
+pub record Reading (number : ℕ) (table : Table) (page before : Bytes) (n i found : ℕ) : Type 0 where
   pub entry : i ≤ n
   pub few : found ≤ i
-  pub rest : checkedCount number table rows (presentFrom page n 0) ≡ countFrom number table rows found (presentFrom page (n - i) i)
+  pub rest : checkedCount table before (rowsFrom number page n 0) ≡ countFrom table before found (rowsFrom number page (n - i) i)
 
-pub begin : (number : ℕ) (table : Table) (page rows : Bytes) (n : ℕ) → Reading number table page rows n 0 0
+pub begin : (number : ℕ) (table : Table) (page before : Bytes) (n : ℕ) → Reading number table page before n 0 0
 unfolding countFrom checkedCount
-begin number table page rows n =
-    let z : 0 + length (presentFrom page n 0) ≡ length (presentFrom page n 0) = omega arith in
+begin number table page before n =
+    let z : 0 + length (rowsFrom number page n 0) ≡ length (rowsFrom number page n 0) = omega arith in
     record { entry = omega arith; few = omega arith; rest = rw (sub-zero n, z) }
 
-module _ {number : ℕ} {table : Table} {page rows : Bytes} {n i found : ℕ} (r : Reading number table page rows n i found) where
-  pub end : n ≤ i → given found ≡ checkedCount number table rows (presentFrom page n 0)
+module _ {number : ℕ} {table : Table} {page before : Bytes} {n i found : ℕ} (r : Reading number table page before n i found) where
+  pub end : n ≤ i → given found ≡ checkedCount table before (rowsFrom number page n 0)
   unfolding countFrom checkRows
   end h = let z : found + 0 ≡ found = omega arith in sym (r .rest ∙ rw (entry-none page n i h, z))
 
-  pub absent : i < n → present page i ≡ false → Reading number table page rows n (i + 1) found
+  pub absent : i < n → present page i ≡ false → Reading number table page before n (i + 1) found
   absent h e = record { entry = omega arith; few = omega arith; rest = rw (entry-absent page h e) at (r .rest) }
 
-  module _ {start : ℕ} (h : i < n) (p : present page i ≡ true) (s : start ≡ rowStart page i) where
-    later : Places
-    later = presentFrom page (n - (i + 1)) (i + 1)
+  module _ {row : Row} (h : i < n) (p : present page i ≡ true) (s : row ≡ rowOf number page i) where
+    later : Rows
+    later = rowsFrom number page (n - (i + 1)) (i + 1)
 
-    turn : (judged : RowRead) → rowReadOf judged ≡ onPage number (checkRow table (drop start rows))
-        → checkedCount number table rows (presentFrom page n 0)
-        ≡ andThen (andThen (rowReadOf judged) (λ _. onPage number (checkRows table rows later))) (λ _. given (found + suc (length later)))
+    turn : {check : Answer (Unit {0})} → checkFound table before (rowOf number page i) ≡ check
+        → checkedCount table before (rowsFrom number page n 0)
+        ≡ andThen (andThen check (λ _. checkRows table before later)) (λ _. given (found + suc (length later)))
     unfolding countFrom checkRows later
-    turn judged k =
-        r .rest
-        ∙ rw (entry-present page h p, ← s, k, ← on-page-then number (checkRow table (drop start rows)) (checkRows table rows later))
+    turn k = r .rest ∙ rw (entry-present page h p, k)
 
-    pub good : {judged : RowRead} → judged ≡ Good → rowReadOf judged ≡ onPage number (checkRow table (drop start rows))
-        → Reading number table page rows n (i + 1) (found + 1)
+    pub good : {told : RowRead} {other : Row} → told ≡ Good other → rowReadOf told ≡ judged table before row
+        → Reading number table page before n (i + 1) (found + 1)
     unfolding countFrom later
-    good {judged} e k =
+    good {other = other} e k =
+        let check = good-check row other (checkFound table before row) (rw e at k) in
+        let own : checkFound table before (rowOf number page i) ≡ given tt = rw s at check in
         let z : found + suc (length later) ≡ found + 1 + length later = omega arith in
-        record { entry = omega arith; few = omega arith; rest = turn judged k ∙ rw (e, z) }
+        record { entry = omega arith; few = omega arith; rest = turn own ∙ rw z }
 
-    pub fault : {judged : RowRead} {refusal : Refusal} → judged ≡ Refused refusal → rowReadOf judged ≡ onPage number (checkRow table (drop start rows))
-        → refused (faultOf refusal) ≡ checkedCount number table rows (presentFrom page n 0)
-    fault {judged} e k = sym (turn judged k ∙ rw e)
+    pub fault : {told : RowRead} {refusal : Refusal} → told ≡ Refused refusal → rowReadOf told ≡ judged table before row
+        → refused (faultOf refusal) ≡ checkedCount table before (rowsFrom number page n 0)
+    fault {refusal = refusal} e k =
+        let check = fault-check row (faultOf refusal) (checkFound table before row) (rw e at k) in
+        sym (turn (rw s at check))

@@ -1,4 +1,4 @@
--- Rules 4.11 to 4.14: the page header, in file order, under the published names; those of the row counts are ours.
+-- Rules 4.11 to 4.14, 4.19: the page header, in file order, under the published names; those of the row counts are ours.
 use mathlib.Core.Bool.{Bool, _&&_}
 use Prim.Native.Nat.{ℕ, _/_, _%_, _^_}
 use lib.Dec.{eqb}
@@ -23,9 +23,17 @@ row-counts page = le24 page 0x18
 abbrev pub page-flags : Bytes → ℕ
 page-flags page = byteAt page 0x1b
 
--- Rule 4.12.
-unfoldable pub headerAgrees : (number : ℕ) (table : Table) (page : Bytes) → Bool
-headerAgrees number table page = eqb (page-index page) number && eqb (type page) (tableNumber table)
+-- Rule 4.12: the page names itself, 12 where it does not.
+unfoldable pub numberAgrees : (number : ℕ) (page : Bytes) → Bool
+numberAgrees number page = eqb (page-index page) number
+
+-- Rule 4.19: it names the table that is asked for, 25 where it does not.
+unfoldable pub typeAgrees : (table : Table) (page : Bytes) → Bool
+typeAgrees table page = eqb (type page) (tableNumber table)
+
+-- Rules 4.12, 4.19: both.
+abbrev pub headerAgrees : (number : ℕ) (table : Table) (page : Bytes) → Bool
+headerAgrees number table page = numberAgrees number page && typeAgrees table page
 
 -- Rule 4.13: flag `40`.
 unfoldable pub rowless : Bytes → Bool

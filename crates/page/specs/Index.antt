@@ -1,10 +1,10 @@
 -- Rules 5.1 to 5.7: the row index, from the page's end backwards in groups of 16 entries.
 use mathlib.Core.Bool.{Bool, cond}
-use mathlib.Core.List.{[], _∷_}
+use mathlib.Core.List.{List, [], _∷_}
 use Prim.Native.Nat.{ℕ, zero, suc, _+_, _-_, _*_, _/_, _%_, _^_}
 use lib.ListN.{length}
 use lib.Dec.{eqb}
-use Rattle.lists.specs.Alias.{Bytes, Places}
+use Rattle.lists.specs.Alias.{Bytes}
 use Rattle.number.specs.Number.{le16}
 use Rattle.format.specs.Size.{heapStart, groupSize}
 
@@ -30,8 +30,7 @@ present page i = eqb (le16 page (flagsAt page i) / 2 ^ (i % 16) % 2) 1
 unfoldable pub rowStart : (page : Bytes) (i : ℕ) → ℕ
 rowStart page i = heapStart + le16 page (offsetAt page i)
 
--- Rule 5.7: the starts of the present rows among so many entries from i on, in the order of the index.
-unfoldable pub presentFrom : (page : Bytes) (left i : ℕ) → Places
+-- Rule 5.7: the present entries among so many from i on, in the order of the index.
+unfoldable pub presentFrom : (page : Bytes) (left i : ℕ) → List ℕ
 presentFrom page zero i = []
-presentFrom page (suc left) i =
-    cond (present page i) (rowStart page i ∷ presentFrom page left (i + 1)) (presentFrom page left (i + 1))
+presentFrom page (suc left) i = cond (present page i) (i ∷ presentFrom page left (i + 1)) (presentFrom page left (i + 1))

@@ -1,16 +1,24 @@
 -- Definitions that only the contracts of private functions and the proofs cite.
 use mathlib.Core.Bool.{cond, not, _&&_}
+use mathlib.Core.Option.{Option, none, some}
 use Prim.Native.Nat.{ℕ, _-_, _%_, _^_, min}
 use lib.Count.{ones}
 use lib.ListN.{length}
-use Rattle.lists.specs.Alias.{Bytes, Places}
+use lib.Dec.{eqb}
+use Rattle.lists.specs.Alias.{Bytes}
+use Rattle.lists.specs.Nth.{Nth, element, past}
 use Rattle.number.specs.Number.{le16}
-use Rattle.refusal.specs.Answer.{Answer, given, andThen}
+use Rattle.refusal.specs.Fault.{fault, faultOf}
+use Rattle.refusal.specs.Answer.{Answer, given, refused, refuseIf, andThen}
 use Rattle.table.specs.declared.Table.{Table}
 use Rattle.page.specs.declared.RowIndex.{RowIndex}
+use Rattle.page.specs.declared.PageTested.{PageTested}
+use Rattle.page.specs.declared.PageTested.the-variants.{Index, Rowless, Refused}
 use Rattle.page.specs.Header.{rowless, entries}
 use Rattle.page.specs.Index.{indexSize, flagsAt}
-use Rattle.page.specs.Read.{indexGood, checkRows, onPage}
+use Rattle.page.specs.declared.Row.{Row}
+use Rattle.page.specs.Found.{Rows}
+use Rattle.page.specs.Read.{indexGood, checkFound, checkRows, pageTests}
 
 -- Rules 4.13, 4.14, 5.4, 5.33: a page's row index, which is good only where the page may have rows.
 abbrev pub rowIndex : (page : Bytes) → RowIndex
@@ -30,6 +38,24 @@ entriesRead index = cond (index .good) (index .entries) 0
 unfoldable pub groupOnes : (page : Bytes) (left i : ℕ) → ℕ
 groupOnes page left i = ones (le16 page (flagsAt page i) % 2 ^ min left 16)
 
--- the number of rows at these starts, unless one of them is refused
-unfoldable pub checkedCount : (number : ℕ) (table : Table) (rows : Bytes) (starts : Places) → Answer ℕ
-checkedCount number table rows starts = andThen (onPage number (checkRows table rows starts)) (λ _. given (length starts))
+-- Rule 4.15: the row index of a page, where the page's tests come to it
+abbrev pub testedIndex : (number : ℕ) (table : Table) (page : Bytes) → Answer (Option RowIndex)
+testedIndex number table page = pageTests number table page (given none) (given (some (rowIndex page)))
+
+abbrev pub testedOf : PageTested → Answer (Option RowIndex)
+testedOf (Index index) = given (some index)
+testedOf Rowless = given none
+testedOf (Refused refusal) = refused (faultOf refusal)
+
+-- the number of these rows, unless one of them is refused
+unfoldable pub checkedCount : (table : Table) (before : Bytes) (rows : Rows) → Answer ℕ
+checkedCount table before rows = andThen (checkRows table before rows) (λ _. given (length rows))
+
+-- a row, unless it is refused
+abbrev pub judged : (table : Table) (before : Bytes) (row : Row) → Answer Row
+judged table before row = andThen (checkFound table before row) (λ _. given row)
+
+-- the row that was found for a rank, which is to start there
+abbrev pub judgedAt : (table : Table) (before : Bytes) (start : ℕ) (found : Nth Row) → Answer Row
+judgedAt table before start (element row) = refuseIf (not (eqb (row .start) start)) (fault 18 0) (judged table before row)
+judgedAt table before start (past rows) = refused (fault 18 0)

@@ -1,18 +1,20 @@
 // Reading one page: its header, its row index and its rows. A page is its own part of the image.
 ghost use mathlib.Core.Path.{_≡_};
+ghost use mathlib.Core.List.{map};
 ghost use Prim.Native.Nat.{_+_, _-_, _*_, _/_, _%_, _^_, _<_, _≤_};
-ghost use lib.ListN.{length, set, take, drop};
+ghost use lib.ListN.{length, set, drop};
 ghost use Rattle.number.specs.Number.{le16};
 ghost use Rattle.format.specs.Size.{heapStart, groupSize};
 ghost use Rattle.lists.specs.Write.{written};
-ghost use Rattle.lists.specs.Nth.{nth, isElement};
+ghost use Rattle.lists.specs.Nth.{nth};
 ghost use Rattle.row.specs.Check.{checkRow, checkOf};
-ghost use Rattle.page.specs.Header.{next-page, headerAgrees, rowless, entries, num-rows};
+ghost use Rattle.page.specs.Header.{next-page, numberAgrees, typeAgrees, rowless, entries, num-rows};
 ghost use Rattle.page.specs.Index.{indexSize, flagsAt, present, rowStart, presentFrom};
-ghost use Rattle.page.specs.Read.{indexGood, beforeIndex, onPage, places, rowPlaces, readPage, rowCount, pageReadOf};
-ghost use Rattle.page.specs.Row.{pageRow, rowAtOf, Near};
+ghost use Rattle.page.specs.Found.{rowOf, noRow};
+ghost use Rattle.page.specs.Read.{indexGood, beforeIndex, entryPlaces, rowPlaces, readPage, rowCount, pageReadOf};
+ghost use Rattle.page.specs.Row.{pageRow, rowAtOf};
 ghost use Rattle.page.specs.OneRow.{readRow, rowReadOf};
-ghost use Rattle.page.specs.Private.{rowIndex, entriesRead, groupOnes, checkedCount};
+ghost use Rattle.page.specs.Private.{rowIndex, entriesRead, groupOnes, testedIndex, testedOf, checkedCount, judged, judgedAt};
 use format::Page;
 use format::RowGroup;
 use refusal::Refusal;
@@ -21,13 +23,20 @@ use table::Table;
 
 // What reading a page finds: the number of its rows, or the refusal.
 pub enum PageRead {
-    Rows(usize),
+    Counted(usize),
     Refused(Refusal),
 }
 
-// What reading one row finds: that it is a good row, or the refusal.
+// A row: its page's number, its entry in the page's row index, and where it starts in the page.
+pub struct Row {
+    pub page: u32,
+    pub entry: u16,
+    pub start: u32,
+}
+
+// What reading one row finds: the row, which is good, or the refusal.
 pub enum RowRead {
-    Good,
+    Good(Row),
     Refused(Refusal),
 }
 
@@ -42,20 +51,31 @@ struct RowIndex {
     start: usize,
 }
 
-// Row k of a page: its start in the page, or how many rows the page has.
+// What the tests of a page leave: its row index, which is good, or that it has flag 40; or the refusal.
+enum PageTested {
+    Index(RowIndex),
+    Rowless,
+    Refused(Refusal),
+}
+
+// Row k of a page or of a chain, or how many rows there are.
 pub enum RowAt {
-    Start(usize),
+    Found(Row),
     Past(usize),
 }
 
-fn header_agrees(page: &[u8], number: u32, table: Table) -> bool
-    ensures { λ r. ⌜ r ≡ headerAgrees number table (now (page .entry)) ⌝ }
+// Whether the page names itself.
+fn number_agrees(page: &[u8], number: u32) -> bool
+    ensures { λ r. ⌜ r ≡ numberAgrees number (now (page .entry)) ⌝ }
 {
-    if number::u32_at(page, 0x04) == number {
-        number::u32_at(page, 0x08) == table.number()
-    } else {
-        false
-    }
+    number::u32_at(page, 0x04) == number
+}
+
+// Whether it names the table.
+fn type_agrees(page: &[u8], table: Table) -> bool
+    ensures { λ r. ⌜ r ≡ typeAgrees table (now (page .entry)) ⌝ }
+{
+    number::u32_at(page, 0x08) == table.number()
 }
 
 // Whether the page has flag 40, and so no rows.
@@ -183,6 +203,26 @@ fn entries_read(index: RowIndex) -> u16
     if index.good { index.entries } else { 0 }
 }
 
+// The tests of a page: its number, its type, flag 40 and its row index.
+fn test_page(page: &[u8], number: u32, table: Table) -> PageTested
+    ensures { λ r. ⌜ testedOf r ≡ testedIndex number table (now (page .entry)) ⌝ }
+{
+    if !number_agrees(page, number) {
+        return PageTested::Refused(Refusal::PageNumber(number));
+    }
+    if !type_agrees(page, table) {
+        return PageTested::Refused(Refusal::PageType(number));
+    }
+    let index = row_index(page);
+    if index.rowless {
+        return PageTested::Rowless;
+    }
+    if !index.good {
+        return PageTested::Refused(Refusal::RowIndex(number));
+    }
+    PageTested::Index(index)
+}
+
 // Where the row of entry i starts in the page.
 fn row_start(page: &[u8], i: u16) -> usize
     requires { ⌜ groupSize * (i / 16) + 6 + 2 * (i % 16) ≤ length (now page) ⌝ }
@@ -194,40 +234,60 @@ fn row_start(page: &[u8], i: u16) -> usize
     Page::HEAP + (number::u16_at(page, flags - 2 - 2 * rest) as usize)
 }
 
-// The check of the row at a start, among the bytes before the row index.
-fn check_at(rows: &[u8], start: usize, table: Table) -> Check
-    ensures { λ r. ⌜ checkOf r ≡ checkRow table (drop start (now (rows .entry))) ⌝ }
+// The row of entry i on a page of this number.
+fn row_of(page: &[u8], number: u32, i: u16) -> Row
+    requires { ⌜ groupSize * (i / 16) + 6 + 2 * (i % 16) ≤ length (now page) ⌝ }
+    ensures { λ r. ⌜ r ≡ rowOf number (now (page .entry)) i ⌝ }
 {
-    if rows.len() < start {
-        return Check::RowFault;
+    let start = row_start(page, i);
+    Row {
+        page: number,
+        entry: i,
+        start: start as u32,
     }
-    row::check_row(table, &rows[start..])
 }
 
-// The check of the row at a start on a page of this number, which 14 and 15 carry.
-fn judge_row(rows: &[u8], number: u32, table: Table, start: usize) -> RowRead
-    ensures { λ r. ⌜ rowReadOf r ≡ onPage number (checkRow table (drop start (now (rows .entry)))) ⌝ }
+// The check of the row at a start, among the bytes before the row index.
+fn check_at(before: &[u8], start: usize, table: Table) -> Check
+    ensures { λ r. ⌜ checkOf r ≡ checkRow table (drop start (now (before .entry))) ⌝ }
 {
-    let check = check_at(rows, start, table);
+    if before.len() < start {
+        return Check::RowFault;
+    }
+    row::check_row(table, &before[start..])
+}
+
+// The check of a row, whose page and entry 14 and 15 carry.
+fn judge_row(before: &[u8], table: Table, row: Row) -> RowRead
+    ensures { λ r. ⌜ rowReadOf r ≡ judged table (now (before .entry)) row ⌝ }
+{
+    let check = check_at(before, row.start as usize, table);
     match check {
-        Check::Good => RowRead::Good,
-        Check::RowFault => RowRead::Refused(Refusal::RowShort(number)),
-        Check::TextFault => RowRead::Refused(Refusal::TextFault(number)),
+        Check::Good => RowRead::Good(row),
+        Check::RowFault => RowRead::Refused(Refusal::RowShort {
+            page: row.page,
+            entry: row.entry,
+        }),
+        Check::TextFault => RowRead::Refused(Refusal::TextFault {
+            page: row.page,
+            entry: row.entry,
+        }),
     }
 }
 
 // Checks the present rows among n entries and counts them.
-fn read_rows(page: &[u8], rows: &[u8], number: u32, table: Table, n: u16) -> PageRead
+fn read_rows(page: &[u8], before: &[u8], number: u32, table: Table, n: u16) -> PageRead
     requires { ⌜ indexSize n ≤ length (now page) ⌝ }
-    ensures { λ r. ⌜ pageReadOf r ≡ checkedCount number table (now (rows .entry)) (presentFrom (now (page .entry)) n 0) ⌝ }
+    ensures { λ r. ⌜ pageReadOf r ≡ checkedCount table (now (before .entry))
+        (map (rowOf number (now (page .entry))) (presentFrom (now (page .entry)) n 0)) ⌝ }
 {
     let mut i: u16 = 0;
     let mut found: usize = 0;
     while i < n {
         if is_present(page, i) {
-            let judged = judge_row(rows, number, table, row_start(page, i));
+            let judged = judge_row(before, table, row_of(page, number, i));
             match judged {
-                RowRead::Good => {
+                RowRead::Good(_) => {
                     found += 1;
                 }
                 RowRead::Refused(refusal) => {
@@ -237,25 +297,20 @@ fn read_rows(page: &[u8], rows: &[u8], number: u32, table: Table, n: u16) -> Pag
         }
         i += 1;
     }
-    PageRead::Rows(found)
+    PageRead::Counted(found)
 }
 
 // The number of the page's rows, or the refusal. The places of the rows are written by fill.
 pub fn read(page: &[u8], number: u32, table: Table) -> PageRead
     ensures { λ r. ⌜ pageReadOf r ≡ rowCount (readPage number table (now (page .entry))) ⌝ }
 {
-    if header_agrees(page, number, table) {
-        let index = row_index(page);
-        if index.rowless {
-            return PageRead::Rows(0);
-        }
-        if index.good {
+    let tested = test_page(page, number, table);
+    match tested {
+        PageTested::Index(index) => {
             read_rows(page, &page[..index.start], number, table, index.entries)
-        } else {
-            PageRead::Refused(Refusal::RowIndex(number))
         }
-    } else {
-        PageRead::Refused(Refusal::PageHeader(number))
+        PageTested::Rowless => PageRead::Counted(0),
+        PageTested::Refused(refusal) => PageRead::Refused(refusal),
     }
 }
 
@@ -271,7 +326,7 @@ fn put(list: &mut [u32], at: usize, place: u32)
 fn fill_rows(page: &[u8], start: u32, n: u16, list: &mut [u32]) -> usize
     requires { ⌜ (indexSize n ≤ length (now page)) × (start + heapStart + 0xffff ≤ 0xffff_ffff) ⌝ }
     ensures { λ r. ⌜ (r ≡ length (presentFrom (now (page .entry)) n 0))
-        × (now (list .exit) ≡ written (now (list .entry)) (places start (presentFrom (now (page .entry)) n 0))) ⌝ }
+        × (now (list .exit) ≡ written (now (list .entry)) (entryPlaces start (now (page .entry)) (presentFrom (now (page .entry)) n 0))) ⌝ }
 {
     let mut entry: u16 = 0;
     let mut at: usize = 0;
@@ -298,16 +353,16 @@ pub fn fill(page: &[u8], start: u32, list: &mut [u32]) -> usize
 }
 
 // Finds row k among the present rows of n entries.
-fn find_row(page: &[u8], n: u16, k: usize) -> RowAt
+fn find_row(page: &[u8], number: u32, n: u16, k: usize) -> RowAt
     requires { ⌜ indexSize n ≤ length (now page) ⌝ }
-    ensures { λ r. ⌜ (rowAtOf r ≡ nth (presentFrom (now (page .entry)) n 0) k 0) × Near r ⌝ }
+    ensures { λ r. ⌜ rowAtOf r ≡ nth noRow (map (rowOf number (now (page .entry))) (presentFrom (now (page .entry)) n 0)) k 0 ⌝ }
 {
     let mut i: u16 = 0;
     let mut found: usize = 0;
     while i < n {
         if is_present(page, i) {
             if found == k {
-                return RowAt::Start(row_start(page, i));
+                return RowAt::Found(row_of(page, number, i));
             }
             found += 1;
         }
@@ -316,44 +371,42 @@ fn find_row(page: &[u8], n: u16, k: usize) -> RowAt
     RowAt::Past(found)
 }
 
-// Row k of a page, counted from 0 among its present rows.
-pub fn row(page: &[u8], k: usize) -> RowAt
-    ensures { λ r. ⌜ (rowAtOf r ≡ pageRow (now (page .entry)) k) × Near r ⌝ }
+// Row k of a page of this number, counted from 0 among its present rows.
+pub fn row_at(page: &[u8], number: u32, k: usize) -> RowAt
+    ensures { λ r. ⌜ rowAtOf r ≡ pageRow number (now (page .entry)) k ⌝ }
 {
-    find_row(page, entries_read(row_index(page)), k)
+    find_row(page, number, entries_read(row_index(page)), k)
 }
 
-// Whether the present row of a rank among n entries starts at a place of the page.
-fn is_row(page: &[u8], n: u16, start: usize, rank: usize) -> bool
-    requires { ⌜ indexSize n ≤ length (now page) ⌝ }
-    ensures { λ r. ⌜ r ≡ isElement start (nth (presentFrom (now (page .entry)) n 0) rank 0) ⌝ }
+// The check of the row that was found for a rank, where it starts at a place of the page.
+fn judge_found(before: &[u8], table: Table, start: u32, found: RowAt) -> RowRead
+    ensures { λ r. ⌜ rowReadOf r ≡ judgedAt table (now (before .entry)) start (rowAtOf found) ⌝ }
 {
-    let found = find_row(page, n, rank);
     match found {
-        RowAt::Start(at) => at == start,
-        RowAt::Past(_) => false,
+        RowAt::Found(row) => {
+            if row.start != start {
+                return RowRead::Refused(Refusal::NoRow);
+            }
+            judge_row(before, table, row)
+        }
+        RowAt::Past(_) => RowRead::Refused(Refusal::NoRow),
     }
 }
 
 // Reads one row of a page, which is to start at a place of the page and to have a rank among its present rows. No other
 // row is looked at.
-pub fn read_row(page: &[u8], number: u32, table: Table, start: usize, rank: usize) -> RowRead
+pub fn read_row(page: &[u8], number: u32, table: Table, start: u32, rank: usize) -> RowRead
     ensures { λ r. ⌜ rowReadOf r ≡ readRow number table (now (page .entry)) start rank ⌝ }
 {
-    if !header_agrees(page, number, table) {
-        return RowRead::Refused(Refusal::PageHeader(number));
+    let tested = test_page(page, number, table);
+    match tested {
+        PageTested::Index(index) => {
+            let found = find_row(page, number, index.entries, rank);
+            judge_found(&page[..index.start], table, start, found)
+        }
+        PageTested::Rowless => RowRead::Refused(Refusal::NoRow),
+        PageTested::Refused(refusal) => RowRead::Refused(refusal),
     }
-    let index = row_index(page);
-    if index.rowless {
-        return RowRead::Refused(Refusal::NoRow);
-    }
-    if !index.good {
-        return RowRead::Refused(Refusal::RowIndex(number));
-    }
-    if !is_row(page, index.entries, start, rank) {
-        return RowRead::Refused(Refusal::NoRow);
-    }
-    judge_row(&page[..index.start], number, table, start)
 }
 
 // The part of a page before its row index, in which its rows lie.

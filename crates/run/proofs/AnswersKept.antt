@@ -6,11 +6,12 @@
 -- Rests on the growth of the walk (table_walk: TableWalk) and on the questions (export: Questions).
 use mathlib.Core.Path.{_≡_, refl, sym, ap, _∙_}
 use mathlib.Core.Bool.{false, cond, not}
+use mathlib.Core.List.{List, [], _∷_, map}
 use mathlib.Core.Logic.{_⊎_, inl, inr, ⊎-elim}
 use mathlib.Core.Option.{Option, none, some}
-use Prim.Native.Nat.{ℕ, _+_, _<_, _≤_}
+use Prim.Native.Nat.{ℕ, zero, suc, _+_, _<_, _≤_}
 use native.Mathlib.Omega.{arith}
-use lib.ListN.{length, take, drop, getD, length-take}
+use lib.ListN.{length, take, drop, getD, length-take, length-map}
 use lib.Seq.{sets-eq, take-append-seam, take-length, getD-take}
 use lib.Dec.{ltb}
 use borrow.Author.Tests.{ltb-true, ltb-false, lt-ltb}
@@ -21,19 +22,20 @@ use Rattle.refusal.specs.Fault.{fault}
 use Rattle.refusal.specs.Answer.{Answer, given, refused, andThen, faultIn}
 use Rattle.table.specs.declared.Table.{Table}
 use Rattle.table.specs.Table.{tableOf, slotCount}
-use Rattle.row.specs.Record.{RowRecord}
+use Rattle.page.specs.declared.Row.{Row}
+use Rattle.page.specs.Found.{Rows, placeOf, places, noRow}
 use Rattle.intake.specs.Private.{Sound}
 use Rattle.intake.specs.Memory.{Memory}
 use Rattle.chain.specs.Walk.{Walk, full, waiting}
 use Rattle.chain.specs.Begins.{Begins}
 use Rattle.chain.proofs.WalkGrows.{BeginsWith, Grows}
 use Rattle.export.specs.OwnFault.{OwnFault}
-use Rattle.table_walk.specs.Walk.{tableWalk}
+use Rattle.table_walk.specs.Walk.{pageSize, tableWalk}
 use Rattle.export.specs.Rows.{RowsOutcome, settleRows, askRows}
 use Rattle.chain.specs.Found as row
 use Rattle.chain.specs.Found.{Found, found}
 use Rattle.export.specs.Row.{settleRow}
-use Rattle.export.specs.Record.{recordAt, tableRecord, askRecord}
+use Rattle.export.specs.Record.{RecordOn, recordAt, tableRecord, askRecord}
 use Rattle.export.specs.Text.{TextPlace, textAt, tableText, askText}
 use Rattle.run.specs.Call.{Question, allRows, oneRecord, oneText, answer}
 use Rattle.run.specs.Written.{placesWritten}
@@ -45,88 +47,103 @@ use Rattle.table_walk.proofs.SameBlocks.{MoreBlocks}
 use Rattle.table_walk.proofs.TableWalk.{table-walk-grows}
 use Rattle.export.proofs.WalkFaults.{table-walk-own}
 use Rattle.table_walk.proofs.EachFound.{EachFound}
-use Rattle.export.proofs.Questions.{rows-asked, record-asked, text-asked, records-found-same, texts-found-same}
+use Rattle.export.proofs.Questions.{rows-asked, record-asked, text-asked, records-found-same, texts-found-same, sizes-same}
 use Rattle.export.proofs.Questions.{TableRefused, own-rows, own-record, own-text, refused-rows, refused-record, refused-text}
 
--- the rows that a walk found
-abbrev rowsIn : Walk Places → Option Places
-rowsIn (given (full rows pages)) = some rows
-rowsIn (given (waiting page rows pages)) = some rows
-rowsIn (refused f) = none
+-- the places of the rows that a walk found, where pages have size bytes
+abbrev placesIn : (size : ℕ) → Walk Rows → Option Places
+placesIn size (given (full rows pages)) = some (places size rows)
+placesIn size (given (waiting page rows pages)) = some (places size rows)
+placesIn size (refused f) = none
 
 front-written : (list rows : Places) → length rows ≤ length list → take (length rows) (written list rows) ≡ rows
 front-written list rows h = rw (sets-eq rows list 0 (omega arith)) (take-append-seam rows (drop (0 + length rows) list))
 
--- where 17 does not refuse, the places that are written are the rows found
-written-found : (list places : Places) (w : Walk Places) → placesWritten (settleRows list w) ≡ some places → rowsIn w ≡ some places
-written-found list places = by
+-- where 17 does not refuse, the places that are written are those of the rows found
+written-found : (size : ℕ) (list these : Places) (w : Walk Rows) → placesWritten (settleRows size list w) ≡ some these → placesIn size w ≡ some these
+written-found size list these = by
   where
-    front : (rows : Places) → ltb (length list) (length rows) ≡ false → some (take (length rows) (written list rows)) ≡ some places → some rows ≡ some places
-    front rows h e = ap some (sym (front-written list rows (ltb-false (length list) (length rows) h))) ∙ e
+    front : (rows : Rows) → ltb (length list) (length rows) ≡ false → some (take (length rows) (written list (places size rows))) ≡ some these
+        → some (places size rows) ≡ some these
+    front rows h e =
+        let long = length-map rows (placeOf size) in
+        let fits = ltb-false (length list) (length rows) h in
+        ap some (sym (rw long at (front-written list (places size rows) (omega arith)))) ∙ e
 
-    by : (w : Walk Places) → placesWritten (settleRows list w) ≡ some places → rowsIn w ≡ some places
+    by : (w : Walk Rows) → placesWritten (settleRows size list w) ≡ some these → placesIn size w ≡ some these
     by (given (full rows pages)) e = on (ltb (length list) (length rows)) (λ h. let z = rw h at e in never (cc)) (λ h. front rows h (rw h at e))
     by (given (waiting page rows pages)) e = on (ltb (length list) (length rows)) (λ h. let z = rw h at e in never (cc)) (λ h. front rows h (rw h at e))
     by (refused f) e = never (cc)
 
-begins-self : (rows : Places) → Begins rows rows
+begins-self : {A : Type 0} (rows : List A) → Begins rows rows
 unfolding Begins
 begins-self rows = take-length rows
 
-begins-later : (v w : Walk Places) (places all : Places) → Grows v w → rowsIn v ≡ some places → rowsIn w ≡ some all → Begins places all
-begins-later v w places all g e f = by v g e
-  where
-    with : (x : Walk Places) → BeginsWith places x → rowsIn x ≡ some all → Begins places all
-    with (given (full rows pages)) b q = let same : rows ≡ all = cc in rw same at b
-    with (given (waiting page rows pages)) b q = let same : rows ≡ all = cc in rw same at b
-    with (refused r) b q = never (cc)
+map-take : {A B : Type 0} (f : A → B) (n : ℕ) (xs : List A) → take n (map f xs) ≡ map f (take n xs)
+map-take f zero xs = refl
+map-take f (suc n) [] = refl
+map-take {B = B} f (suc n) (x ∷ xs) = ap (λ (l : List B). f x ∷ l) (map-take f n xs)
 
-    by : (x : Walk Places) → Grows x w → rowsIn x ≡ some places → Begins places all
+-- the places of rows that stand in front stand in front
+begins-places : (size : ℕ) (rows all : Rows) → Begins rows all → Begins (places size rows) (places size all)
+unfolding Begins
+begins-places size rows all e = rw (length-map rows (placeOf size)) (map-take (placeOf size) (length rows) all ∙ ap (places size) e)
+
+begins-later : (size : ℕ) (v w : Walk Rows) (earlier later : Places) → Grows v w → placesIn size v ≡ some earlier → placesIn size w ≡ some later
+    → Begins earlier later
+begins-later size v w earlier later g e f = by v g e
+  where
+    with : (rows : Rows) (x : Walk Rows) → BeginsWith rows x → placesIn size x ≡ some later → Begins (places size rows) later
+    with rows (given (full all pages)) b q = let same : places size all ≡ later = cc in rw same at (begins-places size rows all b)
+    with rows (given (waiting page all pages)) b q = let same : places size all ≡ later = cc in rw same at (begins-places size rows all b)
+    with rows (refused r) b q = never (cc)
+
+    by : (x : Walk Rows) → Grows x w → placesIn size x ≡ some earlier → Begins earlier later
     by (given (full rows pages)) h q =
-        let same : places ≡ all = cc (ap rowsIn h) in
-        rw same (begins-self all)
-    by (given (waiting page rows pages)) h q = let same : rows ≡ places = cc in with w (rw same at h) f
+        let same : earlier ≡ later = cc (ap (placesIn size) h) in
+        rw same (begins-self later)
+    by (given (waiting page rows pages)) h q = let same : places size rows ≡ earlier = cc in rw same at (with rows w h f)
     by (refused r) h q = never (cc)
 
 -- row k of all rows, where these rows stand in front
-begins-row : (rows all : Places) (k : ℕ) → Begins rows all → k < length rows → (k < length all) × (getD all k 0 ≡ getD rows k 0)
+begins-row : (rows all : Rows) (k : ℕ) → Begins rows all → k < length rows → (k < length all) × (getD all k noRow ≡ getD rows k noRow)
 unfolding Begins
 begins-row rows all k b h = (
   omega (arith, length-take (length rows) all, ap length b),
-  sym (getD-take (length rows) all k 0 h) ∙ ap (λ (l : Places). getD l k 0) b,
+  sym (getD-take (length rows) all k noRow h) ∙ ap (λ (l : Rows). getD l k noRow) b,
 )
 
 refused-by : {A : Type 0} (f : Fault) → OwnFault f → RefusedByFile {A = A} (refused f)
 refused-by f own = record { reason = f; own = own; refusal = refl }
 
 -- f and g answer for a row in the earlier and in the later memory
-module _ {A : Type 0} (f g : ℕ → Answer (Found A)) (k : ℕ) (x : A) where
-  abbrev Same : ℕ → Type 0
-  Same place = f place ≡ g place
+module _ {A : Type 0} (f g : Row → Answer (Found A)) (k : ℕ) (x : A) where
+  abbrev Same : Row → Type 0
+  Same row = f row ≡ g row
 
   -- row k, which was found and answered
-  module _ (rows : Places) (each : Each Same rows) (h : k < length rows) (e : f (getD rows k 0) ≡ given (found x)) where
-    found-again : (all : Places) (other : Answer (Found A)) → Begins rows all → cond (not (ltb k (length all))) other (g (getD all k 0)) ≡ given (found x)
+  module _ (rows : Rows) (each : Each Same rows) (h : k < length rows) (e : f (getD rows k noRow) ≡ given (found x)) where
+    found-again : (all : Rows) (other : Answer (Found A)) → Begins rows all → cond (not (ltb k (length all))) other (g (getD all k noRow)) ≡ given (found x)
     found-again all other b =
         let row = begins-row rows all k b h in
-        rw (lt-ltb k (length all) (row .0), row .1) (sym (each-at Same rows k 0 each h) ∙ e)
+        rw (lt-ltb k (length all) (row .0), row .1) (sym (each-at Same rows k noRow each h) ∙ e)
 
-    answered-again : (w : Walk Places) → BeginsWith rows w → ((r : Fault) → w ≡ refused r → OwnFault r) → StaysAnswered x (settleRow g k w)
+    answered-again : (w : Walk Rows) → BeginsWith rows w → ((r : Fault) → w ≡ refused r → OwnFault r) → StaysAnswered x (settleRow g k w)
     answered-again (given (full all pages)) b own = inl (found-again all (refused (fault 18 0)) b)
     answered-again (given (waiting page all pages)) b own = inl (found-again all (given (row.waiting page (length all) pages)) b)
     answered-again (refused r) b own = inr (refused-by r (own r refl))
 
-  settle-stays : (w : Walk Places) → ((r : Fault) → w ≡ refused r → OwnFault r) → (v : Walk Places) → Grows v w → EachFound Same v
+  settle-stays : (w : Walk Rows) → ((r : Fault) → w ≡ refused r → OwnFault r) → (v : Walk Rows) → Grows v w → EachFound Same v
       → settleRow f k v ≡ given (found x) → StaysAnswered x (settleRow g k w)
   settle-stays w own = by
     where
-      stays : (rows : Places) (other : Answer (Found A)) → Each Same rows → BeginsWith rows w → (other ≡ given (found x) → ⊥)
-          → cond (not (ltb k (length rows))) other (f (getD rows k 0)) ≡ given (found x)
+      stays : (rows : Rows) (other : Answer (Found A)) → Each Same rows → BeginsWith rows w → (other ≡ given (found x) → ⊥)
+          → cond (not (ltb k (length rows))) other (f (getD rows k noRow)) ≡ given (found x)
           → StaysAnswered x (settleRow g k w)
       stays rows other each b no-answer e =
           on (ltb k (length rows)) (λ h. answered-again rows each (ltb-true k (length rows) h) (rw h at e) w b own) (λ h. absurd (no-answer (rw h at e)))
 
-      by : (v : Walk Places) → Grows v w → EachFound Same v → settleRow f k v ≡ given (found x) → StaysAnswered x (settleRow g k w)
+      by : (v : Walk Rows) → Grows v w → EachFound Same v → settleRow f k v ≡ given (found x) → StaysAnswered x (settleRow g k w)
       by (given (full rows pages)) grows each e = stays rows (refused (fault 18 0)) each (rw grows (begins-self rows)) (λ z. never (cc)) e
       by (given (waiting page rows pages)) grows each e =
           stays rows (given (row.waiting page (length rows) pages)) each grows (λ z. never (cc)) e
@@ -141,18 +158,21 @@ module _ {len : ℕ} {a b : Memory}
   grows : (table : Table) → Grows (tableWalk len a table) (tableWalk len b table)
   grows table = table-walk-grows soundA soundB table more
 
-  keeps-rows : (number : ℕ) (list other places all : Places)
-      → placesWritten (askRows len a number list) ≡ some places → placesWritten (askRows len b number other) ≡ some all → Begins places all
-  keeps-rows number list other places all e f =
-      by (tableOf number)
-      (written-found list places (andThen (tableOf number) (tableWalk len a)) (rw (rows-asked len a soundA number list) at e))
-      (written-found other all (andThen (tableOf number) (tableWalk len b)) (rw (rows-asked len b soundB number other) at f))
+  keeps-rows : (number : ℕ) (list other earlier later : Places)
+      → placesWritten (askRows len a number list) ≡ some earlier → placesWritten (askRows len b number other) ≡ some later → Begins earlier later
+  keeps-rows number list other earlier later e f =
+      by (tableOf number) (rw (rows-asked len a soundA number list) at e) (rw (rows-asked len b soundB number other) at f)
     where
-      by : (t : Answer Table) → rowsIn (andThen t (tableWalk len a)) ≡ some places → rowsIn (andThen t (tableWalk len b)) ≡ some all → Begins places all
-      by (given table) p q = begins-later (tableWalk len a table) (tableWalk len b table) places all (grows table) p q
+      by : (t : Answer Table) → placesWritten (settleRows (pageSize a) list (andThen t (tableWalk len a))) ≡ some earlier
+          → placesWritten (settleRows (pageSize b) other (andThen t (tableWalk len b))) ≡ some later → Begins earlier later
+      by (given table) p q =
+          let size = pageSize b in
+          begins-later size (tableWalk len a table) (tableWalk len b table) earlier later (grows table)
+          (written-found size list earlier (tableWalk len a table) (sym (ap placesWritten (sizes-same soundA soundB more table list)) ∙ p))
+          (written-found size other later (tableWalk len b table) q)
       by (refused r) p q = never (cc)
 
-  keeps-record : (number k : ℕ) (x : RowRecord) → askRecord len a number k ≡ given (found x) → StaysAnswered x (askRecord len b number k)
+  keeps-record : (number k : ℕ) (x : RecordOn) → askRecord len a number k ≡ given (found x) → StaysAnswered x (askRecord len b number k)
   keeps-record number k x e = rw (record-asked len b soundB number k) (by (tableOf number) (sym (record-asked len a soundA number k) ∙ e))
     where
       by : (t : Answer Table) → andThen t (tableRecord len a k) ≡ given (found x) → StaysAnswered x (andThen t (tableRecord len b k))

@@ -4,13 +4,12 @@
 --     lists-kept                   so those of the rows that all rows left
 --     record-in-same, text-in-same     where the same blocks are held, every answer is the same
 -- Rests on proofs/ListRead, on the blocks that are held (table_walk: SameBlocks) and on the row that an element names (export: ListedRow).
-use mathlib.Core.Path.{_≡_, refl, sym, ap, _∙_}
+use mathlib.Core.Path.{_≡_, refl, sym, _∙_}
 use mathlib.Core.Bool.{true, false}
-use mathlib.Core.List.{List, _++_}
-use Prim.Native.Nat.{ℕ, _/_, _<_}
+use Prim.Native.Nat.{ℕ, _/_}
 use lib.ListN.{length}
 use lib.Dec.{ltb, leb}
-use Rattle.lists.specs.Alias.{Places, Bytes}
+use Rattle.lists.specs.Alias.{Places}
 use Rattle.lists.proofs.Choice.{on}
 use Rattle.format.specs.Place.{linkable}
 use Rattle.refusal.specs.Answer.{Answer, given, refused, andThen}
@@ -18,6 +17,7 @@ use Rattle.table.specs.declared.Table.{Table}
 use Rattle.table.specs.Table.{tableOf, slotCount}
 use Rattle.row.specs.Record.{readRecord}
 use Rattle.row.specs.Slot.{slotText}
+use Rattle.page.specs.declared.Row.{Row}
 use Rattle.bitmap.specs.Bit.{bit}
 use Rattle.intake.specs.Private.{Sound}
 use Rattle.intake.specs.Memory.{Memory, blockAt}
@@ -25,20 +25,19 @@ use Rattle.directory.specs.Header.{headerHolds}
 use Rattle.directory.proofs.GoodHeader.{good-header}
 use Rattle.chain.specs.Found.{Found, found, waiting, thenFound}
 use Rattle.chain.specs.Held.{pageHeld}
-use Rattle.chain.specs.File.{pagePart}
 use Rattle.chain.proofs.Linkable.{inside-both}
 use Rattle.listed.specs.Rank.{pageOf}
-use Rattle.listed.specs.Listed.{listedPlace}
+use Rattle.listed.specs.Listed.{listedRow}
 use Rattle.table_walk.specs.Asked.{askedTable}
 use Rattle.table_walk.specs.Walk.{pageSize}
 use Rattle.export.specs.Rows.{askRows}
-use Rattle.export.specs.Record.{recordAt}
+use Rattle.export.specs.Record.{recordOn, recordAt}
 use Rattle.export.specs.Text.{textFound, textAt}
 use Rattle.export.specs.FromList.{tableListed, recordListed, askRecordIn, textListed, askTextIn}
 use Rattle.table_walk.proofs.AskedTable.{sound-asked}
 use Rattle.table_walk.proofs.SameBlocks.{SameBlocks, MoreBlocks, InFile, some-block, first-same, held-same, held-more, part-same}
 use Rattle.export.proofs.FoundRow.{row-read-same}
-use Rattle.export.proofs.ListedRow.{ListedRow, then-listed}
+use Rattle.export.proofs.ListedRow.{ListedRow, listed-walked, then-listed}
 use Rattle.run.specs.FromList.{NotWaiting, KeepsLists}
 use Rattle.run.proofs.ListRead.{list-reads, record-answered, text-answered}
 
@@ -58,7 +57,7 @@ module _ {len : ℕ} {a b : Memory} (soundA : Sound len a) (soundB : Sound len b
         → (bit (a .map) 0 ≡ true → headerHolds len (blockAt (a .image) 0) ≡ true → leb (length list) i ≡ false → linkable (len / size) number ≡ true
         → pageHeld size (a .map) number ≡ false → tableListed len b list i table ≡ tableListed len a list i table)
         → tableListed len b list i table ≡ tableListed len a list i table
-    unfolding tableListed listedPlace
+    unfolding tableListed listedRow
     listed-by missing waits =
         on (bit (a .map) 0)
         (λ e. let both = more .bits 0 (some-block len a soundA) e in
@@ -74,11 +73,11 @@ module _ {len : ℕ} {a b : Memory} (soundA : Sound len a) (soundB : Sound len b
         missing
 
     listed-kept : NotWaiting (tableListed len a list i table) → tableListed len b list i table ≡ tableListed len a list i table
-    unfolding tableListed listedPlace
+    unfolding tableListed listedRow
     listed-kept s = listed-by (λ e. absurd (rw e at s)) (λ e h l k p. absurd (rw (e, h, l, k, p) at s))
 
     pub listed-same : SameBlocks len a b → tableListed len b list i table ≡ tableListed len a list i table
-    unfolding tableListed listedPlace
+    unfolding tableListed listedRow
     listed-same same =
         listed-by (λ e. rw (e, sym (same .bits 0 (some-block len a soundA)) ∙ e) refl)
         (λ e h l k p. rw (
@@ -92,18 +91,20 @@ module _ {len : ℕ} {a b : Memory} (soundA : Sound len a) (soundB : Sound len b
           sym (held-same same (in-file h k)) ∙ p,
         ) refl)
 
-    then-answered : {B : Type 0} (f : ℕ → Answer (Found B)) (x : Answer (Found ℕ)) → NotWaiting (thenFound x f) → NotWaiting x
-    then-answered f (given (found place)) s = tt
+    then-answered : {B : Type 0} (f : Row → Answer (Found B)) (x : Answer (Found Row)) → NotWaiting (thenFound x f) → NotWaiting x
+    then-answered f (given (found row)) s = tt
     then-answered f (given (waiting page rows pages)) s = s
     then-answered f (refused r) s = tt
 
     -- the record and the string, as read in both
-    records-same : (place : ℕ) → ListedRow len a table list i place → recordAt a table place ≡ recordAt b table place
-    records-same place r = row-read-same soundA soundB more place (r .page) (λ size bytes. given (found (readRecord table bytes)))
+    records-same : (row : Row) → ListedRow len a table list i row → recordAt a table row ≡ recordAt b table row
+    records-same row r =
+        row-read-same soundA soundB more row (listed-walked len a table list i r)
+        (λ size bytes. given (found (recordOn (row .page) (row .entry) (readRecord table bytes))))
 
-    texts-same : (slot place : ℕ) → ListedRow len a table list i place → textAt a table slot place ≡ textAt b table slot place
-    texts-same slot place r =
-        row-read-same soundA soundB more place (r .page) (λ size bytes. textFound (place / size) place (slotText table bytes slot))
+    texts-same : (slot : ℕ) (row : Row) → ListedRow len a table list i row → textAt a table slot row ≡ textAt b table slot row
+    texts-same slot row r =
+        row-read-same soundA soundB more row (listed-walked len a table list i r) (λ size bytes. textFound row size (slotText table bytes slot))
 
     record-by : tableListed len b list i table ≡ tableListed len a list i table → recordListed len b list i table ≡ recordListed len a list i table
     record-by e = rw e (sym (then-listed len a table list i (recordAt a table) (recordAt b table) records-same))

@@ -4,13 +4,12 @@ use mathlib.Core.List.{List, [], _∷_}
 use Prim.Native.Nat.{ℕ}
 use Rattle.lists.specs.Alias.{Bytes, Words, Places}
 use Rattle.refusal.specs.Answer.{Answer, given, refused}
-use Rattle.row.specs.Record.{RowRecord}
 use Rattle.intake.specs.Memory.{Memory}
 use Rattle.intake.specs.Deliver.{Delivery, Taken, delivery}
 use Rattle.intake.specs.Packet.{deliveriesIn, PacketOutcome, packet}
 use Rattle.export.specs.Rows.{RowsOutcome, askRows}
 use Rattle.chain.specs.Found.{Found}
-use Rattle.export.specs.Record.{askRecord}
+use Rattle.export.specs.Record.{RecordOn, askRecord}
 use Rattle.export.specs.Text.{TextPlace, askText}
 
 -- Rule 5.19; all rows with any list
@@ -46,7 +45,7 @@ pub data CallReply : Type 0 where
   delivered : Answer Taken → CallReply
   deliveredPacket : Answer ℕ → Words → CallReply
   rows : RowsOutcome → CallReply
-  row : Answer (Found RowRecord) → CallReply
+  row : Answer (Found RecordOn) → CallReply
   text : Answer (Found TextPlace) → CallReply
 
 -- a question asked in a file of len bytes, with image and map as they are

@@ -7,13 +7,12 @@ use Rattle.lists.specs.Alias.{Places}
 use Rattle.refusal.specs.declared.Fault.{Fault}
 use Rattle.refusal.specs.Fault.{fault}
 use Rattle.refusal.specs.Answer.{Answer, given, refused}
-use Rattle.row.specs.Record.{RowRecord}
 use Rattle.intake.specs.Memory.{Memory}
 use Rattle.chain.specs.Begins.{Begins}
 use Rattle.export.specs.OwnFault.{OwnFault}
 use Rattle.export.specs.Rows.{askRows}
 use Rattle.chain.specs.Found.{Found, found}
-use Rattle.export.specs.Record.{askRecord}
+use Rattle.export.specs.Record.{RecordOn, askRecord}
 use Rattle.export.specs.Text.{TextPlace, askText}
 use Rattle.run.specs.Call.{Question, answer}
 use Rattle.run.specs.Written.{placesWritten}
@@ -34,7 +33,7 @@ pub record Keeps (len : ℕ) (earlier later : Memory) : Type 0 where
   pub rows : (table : ℕ) (list other places all : Places)
       → placesWritten (askRows len earlier table list) ≡ some places → placesWritten (askRows len later table other) ≡ some all → Begins places all
   -- Rule 8.11
-  pub records : (table k : ℕ) (r : RowRecord) → askRecord len earlier table k ≡ given (found r) → StaysAnswered r (askRecord len later table k)
+  pub records : (table k : ℕ) (r : RecordOn) → askRecord len earlier table k ≡ given (found r) → StaysAnswered r (askRecord len later table k)
   pub texts : (table k slot : ℕ) (t : TextPlace) → askText len earlier table k slot ≡ given (found t)
       → StaysAnswered t (askText len later table k slot)
   -- Rule 8.12

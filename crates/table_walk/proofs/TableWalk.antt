@@ -3,12 +3,13 @@
 --     table-walk-same     memories with the same held blocks give the same walk
 --     table-walk-grows    with more blocks held, Full and refusals stay, and what Waiting found stays in front
 -- Rests on the chain's laws (chain: SameWalk, WalkGrows, ChainPlaces) and on the parts of held pages (proofs/SameBlocks).
-use mathlib.Core.Path.{_≡_, refl, sym, ap, subst, _∙_}
+use mathlib.Core.Path.{_≡_, refl, sym, ap, _∙_}
 use mathlib.Core.Bool.{true}
 use mathlib.Core.List.{[]}
 use Prim.Native.Nat.{ℕ, _≤_}
 use native.Mathlib.Omega.{arith}
-use Rattle.lists.specs.Alias.{Bytes, Places}
+use Rattle.lists.specs.Alias.{Bytes}
+use Rattle.page.specs.Found.{Rows}
 use Rattle.format.specs.Place.{linkable}
 use Rattle.refusal.specs.declared.Fault.{Fault}
 use Rattle.refusal.specs.Answer.{Answer, given, refused}
@@ -34,12 +35,12 @@ use Rattle.chain.proofs.WalkGrows.{Grows, begins-any, walk-from-grows}
 use Rattle.table_walk.proofs.SameBlocks.{SameBlocks, MoreBlocks, same-more, InFile, some-block, first-same, held-same, held-more, part-same}
 
 -- the walk along a file's chain
-abbrev pub fileWalk : (c : Chain) (table : Table) (m : Memory) → Walk Places
+abbrev pub fileWalk : (c : Chain) (table : Table) (m : Memory) → Walk Rows
 fileWalk c table m = walkFrom (filePages c table (m .image) (m .map)) (c .«first_page»)
 
 module _ (len : ℕ) (m : Memory) (table : Table) where
-  pub table-walk-holds : (P : Walk Places → Type 0) → P (given (waiting 0 [] 0))
-      → ((f : Fault) → (9 ≤ f .number) × (f .number ≤ 11) × (f .carries ≡ 0) → P (refused f))
+  pub table-walk-holds : (P : Walk Rows → Type 0) → P (given (waiting 0 [] 0))
+      → ((f : Fault) → (9 ≤ f .number) × (f .number ≤ 11) × (f .value ≡ 0) → P (refused f))
       → ((c : Chain) → bit (m .map) 0 ≡ true → tableChain len (blockAt (m .image) 0) table ≡ given c → P (fileWalk c table m))
       → P (tableWalk len m table)
   unfolding tableWalk
@@ -60,7 +61,7 @@ in-file {len} {block} {c} {number} f e =
     }
 
 -- what relates a refusal to itself, and the two walks of a file's chain, relates the walks from one first block
-both-chains : (len : ℕ) (a b : Memory) (table : Table) (R : Walk Places → Walk Places → Type 0) → ((f : Fault) → R (refused f) (refused f))
+both-chains : (len : ℕ) (a b : Memory) (table : Table) (R : Walk Rows → Walk Rows → Type 0) → ((f : Fault) → R (refused f) (refused f))
     → (block : Bytes) → ((c : Chain) → FileChain len block c → R (fileWalk c table a) (fileWalk c table b))
     → R (chainWalk table (a .image) (a .map) (tableChain len block table)) (chainWalk table (b .image) (b .map) (tableChain len block table))
 both-chains len a b table R refusal block chain = by (tableChain len block table) refl

@@ -3,7 +3,6 @@
 use mathlib.Core.Bool.{cond}
 use mathlib.Core.List.{[]}
 use Prim.Native.Nat.{ℕ}
-use Rattle.lists.specs.Alias.{Places}
 use Rattle.refusal.specs.Answer.{given}
 use Rattle.table.specs.declared.Table.{Table}
 use Rattle.bitmap.specs.Bit.{bit}
@@ -12,6 +11,7 @@ use Rattle.directory.specs.declared.Directory.{Directory}
 use Rattle.directory.specs.Header.{len-page}
 use Rattle.directory.specs.Directory.{noDirectory, readHeader}
 use Rattle.directory.specs.Chain.{tableChain}
+use Rattle.page.specs.Found.{Rows}
 use Rattle.chain.specs.Walk.{Walk, waiting}
 use Rattle.chain.specs.Chain.{chainWalk}
 
@@ -19,7 +19,7 @@ use Rattle.chain.specs.Chain.{chainWalk}
 abbrev pub pageSize : Memory → ℕ
 pageSize m = len-page (blockAt (m .image) 0)
 
-unfoldable pub tableWalk : (len : ℕ) (m : Memory) (table : Table) → Walk Places
+unfoldable pub tableWalk : (len : ℕ) (m : Memory) (table : Table) → Walk Rows
 tableWalk len m table =
     cond (bit (m .map) 0)
     (chainWalk table (m .image) (m .map) (tableChain len (blockAt (m .image) 0) table))

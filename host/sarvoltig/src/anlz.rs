@@ -55,10 +55,10 @@ impl<'a> Anlz<'a> {
     /// # Ok::<(), sarvoltig::Refusal>(())
     /// ```
     pub fn beats(&self) -> Result<u32, Refusal> {
-        let mut result = [0; 1];
+        let mut result = [0; 2];
         match raw::beats(self.file, &mut result) {
             DONE => Ok(result[0] as u32),
-            number => Err(Refusal::new(number, result[0])),
+            number => Err(Refusal::from_result(number, &result)),
         }
     }
 
@@ -79,7 +79,7 @@ impl<'a> Anlz<'a> {
         let mut result = [0; 3];
         match raw::beat(self.file, k, &mut result) {
             DONE => Ok(Beat::from_numbers(result)),
-            number => Err(Refusal::new(number, result[0])),
+            number => Err(Refusal::from_result(number, &result)),
         }
     }
 

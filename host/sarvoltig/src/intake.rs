@@ -1,7 +1,7 @@
 //! An intake over a caller's image and map: deliveries, packets and questions.
 
 use crate::raw::{self, DONE, RESULT, SAME, WAITING};
-use crate::{DeliveredPacket, Encoding, Record, Refusal, Rows, Table, Text};
+use crate::{DeliveredPacket, Encoding, Refusal, Row, Rows, Table, Text};
 
 /// Bytes in a block.
 pub const BLOCK: usize = 512;
@@ -135,10 +135,10 @@ impl<'a> Intake<'a> {
     /// # Errors
     /// Refusals 1 to 3.
     pub fn open_len(len: u64, image: &'a mut [u8], map: &'a mut [u64]) -> Result<Self, Refusal> {
-        let mut result = [0; 1];
+        let mut result = [0; 2];
         match raw::open(len, image, map, &mut result) {
             DONE => Ok(Self { len, image, map }),
-            number => Err(Refusal::new(number, result[0])),
+            number => Err(Refusal::from_result(number, &result)),
         }
     }
 
@@ -186,11 +186,11 @@ impl<'a> Intake<'a> {
     /// # Errors
     /// Refusals 1 to 7.
     pub fn deliver(&mut self, block: u64, piece: &[u8]) -> Result<Delivered, Refusal> {
-        let mut result = [0; 1];
+        let mut result = [0; 2];
         match raw::deliver(self.len, self.image, self.map, block, piece, &mut result) {
             DONE => Ok(Delivered::New(result[0])),
             SAME => Ok(Delivered::Same(result[0])),
-            number => Err(Refusal::new(number, result[0])),
+            number => Err(Refusal::from_result(number, &result)),
         }
     }
 
@@ -236,7 +236,7 @@ impl<'a> Intake<'a> {
         pieces: &[u8],
         results: &'r mut [u32],
     ) -> Result<DeliveredPacket<'r>, Refusal> {
-        let mut result = [0; 1];
+        let mut result = [0; 2];
         match raw::packet(
             self.len,
             self.image,
@@ -247,14 +247,14 @@ impl<'a> Intake<'a> {
             &mut result,
         ) {
             DONE => Ok(DeliveredPacket::new(result[0], &results[..blocks.len()])),
-            number => Err(Refusal::new(number, result[0])),
+            number => Err(Refusal::from_result(number, &result)),
         }
     }
 
     /// Asks for all rows of a table: their places go to the front of the list.
     ///
     /// # Errors
-    /// Refusals 1 to 4, 8 to 16, and 17 where the list is too short.
+    /// Refusals 1 to 4, 8 to 16, 25, and 17 where the list is too short.
     pub fn rows_into(&self, table: Table, list: &mut [u32]) -> Result<Walk, Refusal> {
         let mut result = [0; 3];
         match raw::rows(
@@ -274,14 +274,14 @@ impl<'a> Intake<'a> {
                 rows: result[0],
                 pages: result[1],
             }),
-            number => Err(Refusal::new(number, result[0])),
+            number => Err(Refusal::from_result(number, &result)),
         }
     }
 
     /// Asks for all rows of a table, with a list of its own, from which each row is read.
     ///
     /// # Errors
-    /// Refusals 1 to 4 and 8 to 16.
+    /// Refusals 1 to 4, 8 to 16, and 25.
     pub fn rows(&self, table: Table) -> Result<Rows<'_>, Refusal> {
         let mut list = Vec::new();
         let walk = match self.rows_into(table, &mut list) {
@@ -294,12 +294,13 @@ impl<'a> Intake<'a> {
         Ok(Rows::new(self, table, walk, list))
     }
 
-    /// Asks for record `k` of a table, from 0. It walks the whole table; to read many, see [`Intake::rows`].
+    /// Asks for record `k` of a table, from 0, with its page and index entry. It walks the whole table; to read many,
+    /// see [`Intake::rows`].
     ///
     /// # Errors
-    /// Refusals 1 to 4, 8 to 16, and 18 where the table has no such row.
-    pub fn record(&self, table: Table, k: u64) -> Result<Reply<Record>, Refusal> {
-        record_reply(table, |result| {
+    /// Refusals 1 to 4, 8 to 16, 25, and 18 where the table has no such row.
+    pub fn record(&self, table: Table, k: u64) -> Result<Reply<Row>, Refusal> {
+        row_reply(table, |result| {
             raw::record(self.len, self.image, self.map, table.number(), k, result)
         })
     }
@@ -309,7 +310,7 @@ impl<'a> Intake<'a> {
     /// Slot 0 of a track may hold a recording code, see [`Track::ISRC`](crate::Track::ISRC).
     ///
     /// # Errors
-    /// Refusals 1 to 4, 8 to 16, 18, and 19 where the table has no such slot.
+    /// Refusals 1 to 4, 8 to 16, 18, 25, and 19 where the table has no such slot.
     pub fn text(&self, table: Table, k: u64, slot: u64) -> Result<Reply<Text<'_>>, Refusal> {
         self.text_reply(|result| {
             let table = table.number();
@@ -341,9 +342,9 @@ impl<'a> Intake<'a> {
     /// ```
     ///
     /// # Errors
-    /// Refusals 1 to 4, 9, 12 to 15, and 18 where the list has no element `i` or that is not the place of a row.
-    pub fn record_in(&self, table: Table, list: &[u32], i: u64) -> Result<Reply<Record>, Refusal> {
-        record_reply(table, |result| {
+    /// Refusals 1 to 4, 9, 12 to 15, 25, and 18 where the list has no element `i` or that is not the place of a row.
+    pub fn record_in(&self, table: Table, list: &[u32], i: u64) -> Result<Reply<Row>, Refusal> {
+        row_reply(table, |result| {
             let table = table.number();
             raw::record_in(self.len, self.image, self.map, table, list, i, result)
         })
@@ -402,13 +403,10 @@ impl<'a> Intake<'a> {
 }
 
 /// The answer of a call for a record.
-fn record_reply(
-    table: Table,
-    call: impl FnOnce(&mut [u64]) -> u32,
-) -> Result<Reply<Record>, Refusal> {
+fn row_reply(table: Table, call: impl FnOnce(&mut [u64]) -> u32) -> Result<Reply<Row>, Refusal> {
     let mut result = [0; RESULT];
     let code = call(&mut result);
-    reply(code, &result, |n| Record::from_numbers(table, n))
+    reply(code, &result, |result| Row::from_result(table, result))
 }
 
 /// The answer about one row from a code and its values.
@@ -424,6 +422,6 @@ fn reply<T, const N: usize>(
             rows: result[0],
             pages: result[1],
         }),
-        number => Err(Refusal::new(number, result[0])),
+        number => Err(Refusal::from_result(number, result)),
     }
 }

@@ -5,7 +5,7 @@
 //! many in a packet ([`Intake::deliver_packet`]), and questions are asked at any time: all rows of a table, a record, a
 //! string of a record. An answer is complete, or waits at the first page that is not wholly there, or is a [`Refusal`],
 //! which changes no memory. A question for one record walks its whole table; the rows of [`Intake::rows`] are read from
-//! their list, each on its own page.
+//! their list, each on its own page. A [`Row`] has the record with its page and its index entry.
 //!
 //! [`Anlz`] stands over the bytes of an ANLZ file and answers its number of beats and each beat, or refuses.
 //!
@@ -44,8 +44,8 @@ mod text;
 pub use anlz::{Anlz, Beat, BeatIter};
 pub use intake::{map_words, Delivered, Intake, Reply, Walk, BLOCK};
 pub use packet::{Accepted, BlockIter, DeliveredPacket};
-pub use record::{Record, Track};
+pub use record::{Record, Row, Track};
 pub use refusal::Refusal;
-pub use rows::{Row, RowIter, Rows};
+pub use rows::{ListedRow, RowIter, Rows};
 pub use table::Table;
 pub use text::{Encoding, Text};

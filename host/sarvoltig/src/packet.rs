@@ -138,11 +138,11 @@ impl ExactSizeIterator for BlockIter<'_> {}
 
 impl FusedIterator for BlockIter<'_> {}
 
-/// What a block did, by its code. The refusals of a block, 5 and 7, carry nothing.
+/// What a block did, by its code. The refusals of a block, 5 and 7, have no value and no entry.
 fn result(code: u32) -> Result<Accepted, Refusal> {
     match code {
         DONE => Ok(Accepted::New),
         SAME => Ok(Accepted::Same),
-        number => Err(Refusal::new(number, 0)),
+        number => Err(Refusal::new(number, 0, 0)),
     }
 }

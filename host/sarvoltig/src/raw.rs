@@ -1,10 +1,11 @@
 //! The ten functions of the proved library over numbers and slices, as `include/sarvoltig.h` has them.
 //!
 //! Each returns a code: [`DONE`], [`SAME`], [`WAITING`], or a refusal's number. The answer's values go to the
-//! front of `result`, as many as it takes; [`RESULT`] words take every answer.
+//! front of `result`, as many as it takes; [`RESULT`] words take every answer. Those of a refusal are its value and its
+//! entry, 0 where it names none ([`Refusal`](crate::Refusal)).
 
-/// Words that take the values of every answer: the 22 numbers of a track.
-pub const RESULT: usize = 22;
+/// Words that take the values of every answer: page, index entry and the 22 numbers of a track.
+pub const RESULT: usize = 24;
 /// Code of Open, New, Full, Found, of a packet that is not refused, and of a number of beats.
 pub const DONE: u32 = 0;
 /// Code of a delivery of a held block with the same bytes.
@@ -243,7 +244,7 @@ pub fn rows(
     }
 }
 
-/// Asks for record `k` of a table. Values: its numbers.
+/// Asks for record `k` of a table. Values: its row's page and index entry, and its numbers.
 pub fn record(len: u64, image: &[u8], map: &[u64], table: u32, k: u64, result: &mut [u64]) -> u32 {
     // SAFETY: as in `open`.
     unsafe {
@@ -354,9 +355,9 @@ pub fn text_in(
 /// ```
 /// // a file header alone: no section is a beat grid
 /// let file = b"PMAI\0\0\0\x0c\0\0\0\x0c";
-/// let mut result = [7; 2];
+/// let mut result = [7; 3];
 /// assert_eq!(sarvoltig::raw::beats(file, &mut result), 22);
-/// assert_eq!(result, [0, 7]);
+/// assert_eq!(result, [0, 0, 7]);
 /// ```
 pub fn beats(file: &[u8], result: &mut [u64]) -> u32 {
     // SAFETY: as in `open`.

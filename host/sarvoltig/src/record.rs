@@ -1,6 +1,49 @@
-//! Records: a row's numbers by name.
+//! Rows that were found, and records: their numbers by name.
 
+use crate::raw::RESULT;
 use crate::Table;
+
+/// A row that was found: where the file has it, and its record.
+///
+/// ```
+/// # use sarvoltig::*;
+/// # let file = std::fs::read("../tools/data/demo.pdb")?;
+/// # let mut image = vec![0; file.len()];
+/// # let mut map = vec![0; map_words(file.len() as u64)];
+/// # let mut intake = Intake::open(&mut image, &mut map)?;
+/// # for (number, piece) in (0..).zip(file.chunks(BLOCK)) {
+/// #     intake.deliver(number, piece)?;
+/// # }
+/// let row = intake.record(Table::Genres, 4)?.found().ok_or("a page is missing")?;
+/// assert_eq!((row.page, row.entry), (14, 4));
+/// assert_eq!(row.record, Record::Genre { id: 5 });
+/// # Ok::<(), Box<dyn std::error::Error>>(())
+/// ```
+#[derive(Clone, Copy, Debug, PartialEq, Eq, Hash)]
+pub struct Row {
+    /// Its page.
+    pub page: u32,
+    /// Its index entry, counted from 0 on its page, absent entries included. Two entries may name one row: it is then
+    /// found twice, each time with its own entry.
+    pub entry: u32,
+    /// Its numbers.
+    pub record: Record,
+}
+
+impl Row {
+    /// The row of a table from the values of an answer.
+    pub(crate) fn from_result(table: Table, result: &[u64; RESULT]) -> Self {
+        let [page, entry, numbers @ ..] = result;
+        Self {
+            page: *page as u32,
+            entry: *entry as u32,
+            record: Record::from_numbers(table, numbers),
+        }
+    }
+}
+
+/// How many numbers a record has at most.
+const NUMBERS: usize = RESULT - 2;
 
 /// The numbers of a row, one kind for each table, under the published names.
 #[derive(Clone, Copy, Debug, PartialEq, Eq, Hash)]
@@ -122,7 +165,7 @@ impl Track {
     /// The string slot of the title.
     pub const TITLE: u64 = 17;
 
-    fn from_numbers(n: &[u64; crate::raw::RESULT]) -> Self {
+    fn from_numbers(n: &[u64; NUMBERS]) -> Self {
         Self {
             sample_rate: n[0] as u32,
             composer_id: n[1] as u32,
@@ -152,7 +195,7 @@ impl Track {
 
 impl Record {
     /// The record of a table from its numbers, in the order of rule 5.16.
-    pub(crate) fn from_numbers(table: Table, n: &[u64; crate::raw::RESULT]) -> Self {
+    fn from_numbers(table: Table, n: &[u64; NUMBERS]) -> Self {
         let id = n[0] as u32;
         match table {
             Table::Tracks => Self::Track(Track::from_numbers(n)),

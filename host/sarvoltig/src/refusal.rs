@@ -15,6 +15,9 @@ use std::fmt;
 /// assert_eq!(refusal, Some(Refusal::Length));
 /// assert_eq!(Refusal::Length.number(), 1);
 /// ```
+///
+/// Of a page's header 12 is tested, then 25: a page with another number stands there, which hints at a fetch fault, or
+/// a page of another table, which hints at a bad medium.
 #[derive(Clone, Copy, Debug, PartialEq, Eq, Hash)]
 #[non_exhaustive]
 pub enum Refusal {
@@ -40,14 +43,24 @@ pub enum Refusal {
     NoPointer,
     /// 11: a link leaves the file; the page that holds it, 0 for the directory.
     PageLink(u64),
-    /// 12: the page's header disagrees.
-    PageHeader(u64),
+    /// 12: the page's header names another page.
+    PageNumber(u64),
     /// 13: the page's row index does not fit, or has not as many rows as the page counts.
     RowIndex(u64),
-    /// 14: a row of the page does not fit, or is an artist of unknown subtype.
-    RowShort(u64),
-    /// 15: a string of the page is malformed or leaves it, or a recording code has no zero byte.
-    TextFault(u64),
+    /// 14: a row does not fit, or is an artist of unknown subtype.
+    RowShort {
+        /// Its page.
+        page: u64,
+        /// Its index entry ([`Row::entry`](crate::Row::entry)).
+        entry: u64,
+    },
+    /// 15: a string of a row is malformed or leaves the page, or a recording code has no zero byte.
+    TextFault {
+        /// The row's page.
+        page: u64,
+        /// The row's index entry ([`Row::entry`](crate::Row::entry)).
+        entry: u64,
+    },
     /// 16: the chain meets a page twice.
     ChainLoop,
     /// 17: the list is too short; the rows found, or the number of blocks for the results of a packet.
@@ -66,19 +79,29 @@ pub enum Refusal {
     GridLength,
     /// 24: the bar position of some beat is not 1 to 4.
     BarPosition,
+    /// 25: the page's header names another table type.
+    PageType(u64),
     /// A number that this version does not know.
     Other {
         /// The refusal's number.
         number: u32,
-        /// What it carries.
-        carries: u64,
+        /// Its value.
+        value: u64,
+        /// Its index entry.
+        entry: u64,
     },
 }
 
 impl Refusal {
-    /// The refusal of a number with what it carries.
+    /// The refusal of a number with its value and its index entry; those that it does not have are dropped.
+    ///
+    /// ```
+    /// use sarvoltig::Refusal;
+    /// assert_eq!(Refusal::new(14, 7, 3), Refusal::RowShort { page: 7, entry: 3 });
+    /// assert_eq!(Refusal::new(25, 7, 0), Refusal::PageType(7));
+    /// ```
     #[must_use]
-    pub fn new(number: u32, carries: u64) -> Self {
+    pub fn new(number: u32, value: u64, entry: u64) -> Self {
         match number {
             1 => Self::Length,
             2 => Self::ImageShort,
@@ -90,13 +113,13 @@ impl Refusal {
             8 => Self::TableType,
             9 => Self::FileHeader,
             10 => Self::NoPointer,
-            11 => Self::PageLink(carries),
-            12 => Self::PageHeader(carries),
-            13 => Self::RowIndex(carries),
-            14 => Self::RowShort(carries),
-            15 => Self::TextFault(carries),
+            11 => Self::PageLink(value),
+            12 => Self::PageNumber(value),
+            13 => Self::RowIndex(value),
+            14 => Self::RowShort { page: value, entry },
+            15 => Self::TextFault { page: value, entry },
             16 => Self::ChainLoop,
-            17 => Self::ListShort(carries),
+            17 => Self::ListShort(value),
             18 => Self::NoRow,
             19 => Self::NoSlot,
             20 => Self::AnlzHeader,
@@ -104,8 +127,18 @@ impl Refusal {
             22 => Self::NoGrid,
             23 => Self::GridLength,
             24 => Self::BarPosition,
-            _ => Self::Other { number, carries },
+            25 => Self::PageType(value),
+            _ => Self::Other {
+                number,
+                value,
+                entry,
+            },
         }
+    }
+
+    /// The refusal of a number with the values at the front of the result.
+    pub(crate) fn from_result(number: u32, result: &[u64]) -> Self {
+        Self::new(number, result[0], result[1])
     }
 
     /// Its number.
@@ -123,10 +156,10 @@ impl Refusal {
             Self::FileHeader => 9,
             Self::NoPointer => 10,
             Self::PageLink(_) => 11,
-            Self::PageHeader(_) => 12,
+            Self::PageNumber(_) => 12,
             Self::RowIndex(_) => 13,
-            Self::RowShort(_) => 14,
-            Self::TextFault(_) => 15,
+            Self::RowShort { .. } => 14,
+            Self::TextFault { .. } => 15,
             Self::ChainLoop => 16,
             Self::ListShort(_) => 17,
             Self::NoRow => 18,
@@ -136,26 +169,45 @@ impl Refusal {
             Self::NoGrid => 22,
             Self::GridLength => 23,
             Self::BarPosition => 24,
+            Self::PageType(_) => 25,
             Self::Other { number, .. } => number,
         }
     }
 
-    /// What it carries: a page, the rows found, the number of blocks in a packet, or 0.
+    /// Its value: a page, the rows found, the number of blocks in a packet, or 0.
     #[must_use]
-    pub fn carries(self) -> u64 {
+    pub fn value(self) -> u64 {
         match self {
             Self::PageLink(value)
-            | Self::PageHeader(value)
+            | Self::PageNumber(value)
             | Self::RowIndex(value)
-            | Self::RowShort(value)
-            | Self::TextFault(value)
+            | Self::RowShort { page: value, .. }
+            | Self::TextFault { page: value, .. }
             | Self::ListShort(value)
-            | Self::Other { carries: value, .. } => value,
+            | Self::PageType(value)
+            | Self::Other { value, .. } => value,
             _ => 0,
         }
     }
 
-    /// Whether it is a fault of the export's own (9 to 16), which every later question on the table meets again.
+    /// Its index entry, or 0.
+    ///
+    /// ```
+    /// use sarvoltig::Refusal;
+    /// assert_eq!(Refusal::TextFault { page: 7, entry: 3 }.entry(), 3);
+    /// assert_eq!(Refusal::RowIndex(7).entry(), 0);
+    /// ```
+    #[must_use]
+    pub fn entry(self) -> u64 {
+        match self {
+            Self::RowShort { entry, .. }
+            | Self::TextFault { entry, .. }
+            | Self::Other { entry, .. } => entry,
+            _ => 0,
+        }
+    }
+
+    /// Whether it is a fault of the export's own (9 to 16 and 25), which every later question on the table meets again.
     /// The faults of an ANLZ file (20 to 24) are not meant: no block of it is yet to come.
     ///
     /// ```
@@ -165,44 +217,62 @@ impl Refusal {
     /// ```
     #[must_use]
     pub fn is_file_fault(self) -> bool {
-        (9..=16).contains(&self.number())
+        matches!(self.number(), 9..=16 | 25)
+    }
+
+    /// What is wrong, for a refusal that has no value.
+    fn words(self) -> &'static str {
+        match self {
+            Self::Length => "the file length is not allowed",
+            Self::ImageShort => "the image is shorter than the file",
+            Self::MapShort => "the map is too short",
+            Self::MapSpare => "the map has a bit past the last block",
+            Self::BlockNumber => "the block number is past the last block",
+            Self::PieceSize => "there are not 512 bytes for each block",
+            Self::BlockDiffers => "the block is held with other bytes",
+            Self::TableType => "the table type is not one of the ten",
+            Self::FileHeader => "the file header is broken",
+            Self::NoPointer => "the file has no such table",
+            Self::ChainLoop => "the chain meets a page twice",
+            Self::NoRow => "there is no such row or beat",
+            Self::NoSlot => "the table has no such string slot",
+            Self::AnlzHeader => "the header of the ANLZ file is broken",
+            Self::Section => "a section of the ANLZ file is malformed",
+            Self::NoGrid => "the ANLZ file has no beat grid",
+            Self::GridLength => "the number of beats does not fit the beat grid",
+            Self::BarPosition => "the bar position of a beat is not 1 to 4",
+            _ => "",
+        }
     }
 }
 
 impl fmt::Display for Refusal {
     fn fmt(&self, f: &mut fmt::Formatter<'_>) -> fmt::Result {
-        match self {
-            Self::Length => write!(f, "the file length is not allowed"),
-            Self::ImageShort => write!(f, "the image is shorter than the file"),
-            Self::MapShort => write!(f, "the map is too short"),
-            Self::MapSpare => write!(f, "the map has a bit past the last block"),
-            Self::BlockNumber => write!(f, "the block number is past the last block"),
-            Self::PieceSize => write!(f, "there are not 512 bytes for each block"),
-            Self::BlockDiffers => write!(f, "the block is held with other bytes"),
-            Self::TableType => write!(f, "the table type is not one of the ten"),
-            Self::FileHeader => write!(f, "the file header is broken"),
-            Self::NoPointer => write!(f, "the file has no such table"),
+        match *self {
             Self::PageLink(0) => write!(f, "a link of the directory leaves the file"),
             Self::PageLink(page) => write!(f, "the link of page {page} leaves the file"),
-            Self::PageHeader(page) => write!(f, "the header of page {page} disagrees"),
+            Self::PageNumber(page) => write!(f, "page {page} has another page's number"),
             Self::RowIndex(page) => write!(
                 f,
                 "the row index of page {page} does not fit or has not as many rows as counted"
             ),
-            Self::RowShort(page) => write!(f, "a row of page {page} does not fit"),
-            Self::TextFault(page) => write!(f, "a string of page {page} is malformed"),
-            Self::ChainLoop => write!(f, "the chain meets a page twice"),
+            Self::RowShort { page, entry } => {
+                write!(f, "the row of entry {entry} on page {page} does not fit")
+            }
+            Self::TextFault { page, entry } => write!(
+                f,
+                "a string in the row of entry {entry} on page {page} is malformed"
+            ),
             Self::ListShort(needed) => {
                 write!(f, "the list is too short, it needs {needed} elements")
             }
-            Self::NoRow => write!(f, "there is no such row or beat"),
-            Self::NoSlot => write!(f, "the table has no such string slot"),
-            Self::AnlzHeader => write!(f, "the header of the ANLZ file is broken"),
-            Self::Section => write!(f, "a section of the ANLZ file is malformed"),
-            Self::NoGrid => write!(f, "the ANLZ file has no beat grid"),
-            Self::GridLength => write!(f, "the number of beats does not fit the beat grid"),
-            Self::BarPosition => write!(f, "the bar position of a beat is not 1 to 4"),
-            Self::Other { number, carries } => write!(f, "refusal {number} with {carries}"),
+            Self::PageType(page) => write!(f, "page {page} is of another table"),
+            Self::Other {
+                number,
+                value,
+                entry,
+            } => write!(f, "refusal {number} with {value} and entry {entry}"),
+            without_value => f.write_str(without_value.words()),
         }
     }
 }

@@ -1,6 +1,6 @@
 //! The rows of a table, read from the list of their places.
 
-use crate::{Intake, Record, Refusal, Reply, Table, Text, Walk};
+use crate::{Intake, Record, Refusal, Reply, Row, Table, Text, Walk};
 use std::iter::FusedIterator;
 use std::ops::Range;
 
@@ -75,8 +75,8 @@ impl<'a> Rows<'a> {
 
     /// Row `i`, from 0.
     #[must_use]
-    pub fn get(&self, i: usize) -> Option<Row<'_, 'a>> {
-        (i < self.len()).then_some(Row { rows: self, i })
+    pub fn get(&self, i: usize) -> Option<ListedRow<'_, 'a>> {
+        (i < self.len()).then_some(ListedRow { rows: self, i })
     }
 
     /// The rows in order.
@@ -90,7 +90,7 @@ impl<'a> Rows<'a> {
 }
 
 impl<'r, 'a> IntoIterator for &'r Rows<'a> {
-    type Item = Row<'r, 'a>;
+    type Item = ListedRow<'r, 'a>;
     type IntoIter = RowIter<'r, 'a>;
 
     fn into_iter(self) -> RowIter<'r, 'a> {
@@ -106,9 +106,9 @@ pub struct RowIter<'r, 'a> {
 }
 
 impl<'r, 'a> Iterator for RowIter<'r, 'a> {
-    type Item = Row<'r, 'a>;
+    type Item = ListedRow<'r, 'a>;
 
-    fn next(&mut self) -> Option<Row<'r, 'a>> {
+    fn next(&mut self) -> Option<ListedRow<'r, 'a>> {
         self.rows.get(self.left.next()?)
     }
 
@@ -127,14 +127,14 @@ impl ExactSizeIterator for RowIter<'_, '_> {}
 
 impl FusedIterator for RowIter<'_, '_> {}
 
-/// A row that was found. Its record and its strings are read from its page alone.
+/// A row in a list. Its record and its strings are read from its page alone.
 #[derive(Clone, Copy, Debug)]
-pub struct Row<'r, 'a> {
+pub struct ListedRow<'r, 'a> {
     rows: &'r Rows<'a>,
     i: usize,
 }
 
-impl<'a> Row<'_, 'a> {
+impl<'a> ListedRow<'_, 'a> {
     /// Its number among the table's rows, from 0.
     #[must_use]
     pub fn number(&self) -> u64 {
@@ -147,13 +147,39 @@ impl<'a> Row<'_, 'a> {
         self.rows.places[self.i]
     }
 
-    /// Its record.
+    /// Its page, its index entry and its record.
+    ///
+    /// ```
+    /// # use sarvoltig::*;
+    /// # let file = std::fs::read("../tools/data/demo.pdb")?;
+    /// # let mut image = vec![0; file.len()];
+    /// # let mut map = vec![0; map_words(file.len() as u64)];
+    /// # let mut intake = Intake::open(&mut image, &mut map)?;
+    /// # for (number, piece) in (0..).zip(file.chunks(BLOCK)) {
+    /// #     intake.deliver(number, piece)?;
+    /// # }
+    /// let tracks = intake.rows(Table::Tracks)?;
+    /// let fourth = tracks.get(3).ok_or("no track")?;
+    /// let row = fourth.read()?;
+    /// // three tracks stand on page 1
+    /// assert_eq!((row.page, row.entry), (2, 0));
+    /// assert_eq!(row.record, fourth.record()?);
+    /// # Ok::<(), Box<dyn std::error::Error>>(())
+    /// ```
     ///
     /// # Errors
     /// None: the row was found, and the image and the map are as they were then.
-    pub fn record(&self) -> Result<Record, Refusal> {
+    pub fn read(&self) -> Result<Row, Refusal> {
         let Rows { intake, table, .. } = *self.rows;
-        read(intake.record_in(table, &self.rows.places, self.number()))
+        found(intake.record_in(table, &self.rows.places, self.number()))
+    }
+
+    /// Its record.
+    ///
+    /// # Errors
+    /// None, as of [`read`](Self::read).
+    pub fn record(&self) -> Result<Record, Refusal> {
+        self.read().map(|row| row.record)
     }
 
     /// The text of one of its string slots, which may be kept for longer than the list.
@@ -162,11 +188,11 @@ impl<'a> Row<'_, 'a> {
     /// 19 where the table has no such slot.
     pub fn text(&self, slot: u64) -> Result<Text<'a>, Refusal> {
         let Rows { intake, table, .. } = *self.rows;
-        read(intake.text_in(table, &self.rows.places, self.number(), slot))
+        found(intake.text_in(table, &self.rows.places, self.number(), slot))
     }
 }
 
 /// What a call gave for a row that is there.
-fn read<T>(answer: Result<Reply<T>, Refusal>) -> Result<T, Refusal> {
+fn found<T>(answer: Result<Reply<T>, Refusal>) -> Result<T, Refusal> {
     answer?.found().ok_or(Refusal::NoRow)
 }

@@ -74,18 +74,18 @@ impl Coded {
         if let Some(answer) = good(self) {
             return answer.map(Ok);
         }
-        let carries = self.values(1)?[0];
-        let number = u8::try_from(self.code).map_err(|_| Failure::Wrong)?;
-        Ok(Err(Refusal { number, carries }))
+        let values = self.values(2)?;
+        Ok(Err(Refusal {
+            number: narrow(self.code.into())?,
+            value: values[0],
+            entry: values[1],
+        }))
     }
 
     /// A record, or where the reading waits.
     fn record(&self, table: u32) -> Result<Result<Reply, Refusal>, Failure> {
         self.answer(|c| match c.code {
-            DONE => Some(
-                c.values(numbers_in(table))
-                    .map(|v| RecordReply::Found(v.to_vec())),
-            ),
+            DONE => Some(c.values(2 + numbers_in(table)).and_then(found_record)),
             _ => c
                 .waits()
                 .map(|w| w.map(|(page, rows, pages)| RecordReply::Waiting { page, rows, pages })),
@@ -301,6 +301,14 @@ fn found_beat(values: &[u64]) -> Result<Reply, Failure> {
         tempo: narrow(values[1])?,
         time: narrow(values[2])?,
     }))
+}
+
+fn found_record(values: &[u64]) -> Result<RecordReply, Failure> {
+    Ok(RecordReply::Found {
+        page: narrow(values[0])?,
+        entry: narrow(values[1])?,
+        numbers: values[2..].to_vec(),
+    })
 }
 
 fn found_text(values: &[u64]) -> Result<TextReply, Failure> {

@@ -193,10 +193,10 @@ fn results_of_any_length() {
                 (DONE, vec![beats.len() as u64]),
                 beats
                     .first()
-                    .map_or((18, vec![0]), |beat| (DONE, numbers(*beat))),
+                    .map_or((18, vec![0, 0]), |beat| (DONE, numbers(*beat))),
             ),
             Err(refusal) => {
-                let refused = (refusal.number.into(), vec![0]);
+                let refused = (refusal.number.into(), vec![0, 0]);
                 (refused.clone(), refused)
             }
         };

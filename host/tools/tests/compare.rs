@@ -3,7 +3,9 @@
 //! same answers about more than 100,000 ANLZ files.
 
 use sarvoltig_reference::anlz::grid;
-use sarvoltig_reference::model::{RecordReply, Refusal, Rows, Session, BLOCK_SIZE};
+use sarvoltig_reference::model::{
+    index_size, RecordReply, Refusal, Rows, Session, BLOCK_SIZE, PAGE_HEADER,
+};
 use sarvoltig_reference::schedule::{anlz_run, compared_run, Call, Reply, Run};
 use sarvoltig_tools::compare::{difference, first_difference};
 use std::collections::BTreeMap;
@@ -23,7 +25,8 @@ const LEN_PAGE: usize = 32_768;
 const PLAYLIST_ENTRIES: u8 = 8;
 const MOST_ROWS: usize = 2_047;
 
-/// A page of 32,768 bytes of the playlist entries. All its entries name one row, at the start of the heap.
+/// A page of 32,768 bytes of the playlist entries. All its entries name one row, at the start of the heap, but for the
+/// last where that is broken.
 #[derive(Clone, Copy, Debug)]
 struct PlaylistPage {
     entries: usize,
@@ -33,6 +36,8 @@ struct PlaylistPage {
     past_last: usize,
     /// How many present rows the header counts.
     num_rows: usize,
+    /// The row of the last entry starts a byte before the index.
+    broken: bool,
 }
 
 impl PlaylistPage {
@@ -52,16 +57,38 @@ impl PlaylistPage {
         for entry in self.entries - self.present..self.entries + self.past_last {
             page[LEN_PAGE - 36 * (entry / 16) - 4 + entry % 16 / 8] |= 1 << (entry % 8);
         }
+        if self.broken {
+            let last = self.entries - 1;
+            let at = LEN_PAGE - 36 * (last / 16) - 6 - 2 * (last % 16);
+            page[at..at + 2].copy_from_slice(&(self.last_offset() as u16).to_le_bytes());
+        }
         file
     }
 
-    /// The blocks that are needed, in a packet, and three questions.
+    /// Where the row of the last entry starts in the heap.
+    fn last_offset(self) -> usize {
+        match self.broken {
+            true => LEN_PAGE - index_size(self.entries) - PAGE_HEADER - 1,
+            false => 0,
+        }
+    }
+
+    fn places(self) -> Vec<u32> {
+        let mut places = vec![(LEN_PAGE + PAGE_HEADER) as u32; self.present];
+        if let Some(last) = places.last_mut() {
+            *last += self.last_offset() as u32;
+        }
+        places
+    }
+
+    /// The blocks that are needed, in a packet, and four questions; the last reads from a list.
     fn calls(self) -> Vec<Call> {
         let file = self.file();
         let mut blocks = vec![0];
         blocks.extend(LEN_PAGE / BLOCK_SIZE..file.len() / BLOCK_SIZE);
         let table = u32::from(PLAYLIST_ENTRIES);
         let record = |k: usize| Call::Record { table, k: k as u64 };
+        let last = self.present.saturating_sub(1);
         vec![
             Call::Lend {
                 image: file.len(),
@@ -79,31 +106,66 @@ impl PlaylistPage {
                 table,
                 room: MOST_ROWS + 1,
             },
-            record(self.present.saturating_sub(1)),
+            record(last),
             record(self.present),
+            Call::List {
+                places: self.places(),
+            },
+            Call::RecordIn {
+                table,
+                i: last as u64,
+            },
         ]
     }
 
-    /// The answers to the questions.
-    fn expected(self) -> [Result<Reply, Refusal>; 3] {
-        let refused = |number, carries| Err(Refusal { number, carries });
-        if self.num_rows != self.present {
-            return [refused(13, 1), refused(13, 1), refused(13, 1)];
-        }
-        let rows = self.present as u64;
-        let record = RecordReply::Found(vec![5, 6, 7]);
-        let last = match rows {
-            0 => refused(18, 0),
-            _ => Ok(Reply::Record(PLAYLIST_ENTRIES.into(), record)),
+    /// What refuses the table.
+    fn fault(self) -> Option<Refusal> {
+        let refusal = |number, entry: usize| Refusal {
+            number,
+            value: 1,
+            entry: entry as u64,
         };
-        let full = Rows::Full { rows, pages: 1 };
-        [Ok(Reply::Rows(full)), last, refused(18, 0)]
+        match self.num_rows == self.present {
+            true => self.broken.then(|| refusal(14, self.entries - 1)),
+            false => Some(refusal(13, 0)),
+        }
+    }
+
+    /// The answers to the questions.
+    fn expected(self) -> [Result<Reply, Refusal>; 4] {
+        let no_row = Refusal {
+            number: 18,
+            value: 0,
+            entry: 0,
+        };
+        let rows = self.present as u64;
+        let found = |entry: usize| RecordReply::Found {
+            page: 1,
+            entry: entry as u32,
+            numbers: vec![5, 6, 7],
+        };
+        let last = match (rows, self.fault()) {
+            (0, _) => Err(no_row),
+            (_, Some(fault)) => Err(fault),
+            _ => Ok(Reply::Record(
+                PLAYLIST_ENTRIES.into(),
+                found(self.entries - 1),
+            )),
+        };
+        match self.fault() {
+            Some(fault) => [Err(fault), Err(fault), Err(fault), last],
+            None => {
+                let full = Reply::Rows(Rows::Full { rows, pages: 1 });
+                [Ok(full), last.clone(), Err(no_row), last]
+            }
+        }
     }
 }
 
 /// Pages of so many entries, all present or as many as the header has room to count. It counts them right, without and
-/// with flags set past the last entry; one too many; with those flags; and one too few. Of more than 2,047 entries all
-/// are present on one page more, which has the low 11 bits of their number.
+/// with flags set past the last entry; one too many; with those flags; and one too few. On one page more it counts them
+/// right and the last row is broken. Of more than 2,047 entries all are present on another, which has the low 11 bits of
+/// their number.
 fn playlist_pages(entries: usize) -> Vec<PlaylistPage> {
     let past_last = entries.next_multiple_of(16) - entries;
     let page = |past_last, too_many| {
@@ -113,6 +175,7 @@ fn playlist_pages(entries: usize) -> Vec<PlaylistPage> {
             present,
             past_last,
             num_rows: present + too_many,
+            broken: false,
         }
     };
     let right = page(0, 0);
@@ -122,25 +185,30 @@ fn playlist_pages(entries: usize) -> Vec<PlaylistPage> {
         page(0, 1),
         page(past_last, past_last),
     ];
-    pages.extend((entries > 0).then(|| PlaylistPage {
-        num_rows: right.present - 1,
-        ..right
-    }));
+    if entries > 0 {
+        pages.push(PlaylistPage {
+            num_rows: right.present - 1,
+            ..right
+        });
+        pages.push(PlaylistPage {
+            broken: true,
+            ..right
+        });
+    }
     pages.extend((entries > MOST_ROWS).then_some(PlaylistPage {
-        entries,
         present: entries,
-        past_last,
         num_rows: entries % 2_048,
+        ..page(past_last, 0)
     }));
     pages
 }
 
-/// What the reference answers to the last three calls.
+/// What the reference answers to the last four calls that have an answer.
 fn last_replies(calls: &[Call]) -> Vec<Result<Reply, Refusal>> {
     let mut run = Run::new(Session::new(Vec::new(), Vec::new()));
     let answers = calls.iter().filter_map(|call| call.make(&mut run));
     let replies: Vec<_> = answers.map(|answer| answer.reply).collect();
-    replies[replies.len() - 3..].to_vec()
+    replies[replies.len() - 4..].to_vec()
 }
 
 #[test]

@@ -184,6 +184,43 @@ fn the_demo_refuses_what_is_no_export() {
     assert_eq!(demo(&["file", "--late", "x"]).status.code(), Some(2));
 }
 
+/// Page 22 of the stored export, of 1,024 bytes, has the playlist tree. One byte of it is written over.
+#[test]
+fn the_demo_says_where_a_fault_is() {
+    const PAGE: usize = 22 * 1024;
+    const NAME_OF_ENTRY_3: usize = PAGE + 0x28 + 82 + 0x14;
+    const OFFSET_OF_ENTRY_3: usize = PAGE + 1024 - 6 - 2 * 3;
+    let faults = [
+        (
+            PAGE + 0x04,
+            1,
+            "refused 12: page 22 has another page's number\n",
+        ),
+        (PAGE + 0x08, 8, "refused 25: page 22 is of another table\n"),
+        (
+            OFFSET_OF_ENTRY_3 + 1,
+            255,
+            "refused 14: the row of entry 3 on page 22 does not fit\n",
+        ),
+        (
+            NAME_OF_ENTRY_3,
+            0,
+            "refused 15: a string in the row of entry 3 on page 22 is malformed\n",
+        ),
+    ];
+    for (at, byte, line) in faults {
+        let mut file = generate::demo();
+        file[at] = byte;
+        let path = written("fault.pdb", &file);
+        let refused = demo(&[path.to_str().expect("text")]);
+        assert_eq!(refused.status.code(), Some(1));
+        let text = String::from_utf8_lossy(&refused.stdout);
+        assert!(text.contains(&format!("  PlaylistTree          {line}")));
+        let error = String::from_utf8_lossy(&refused.stderr);
+        assert!(error.ends_with(&format!("fault.pdb: {line}")), "{error}");
+    }
+}
+
 #[test]
 fn the_demo_ends_quietly_when_nobody_reads() {
     let mut demo = Command::new(env!("CARGO_BIN_EXE_demo"))

@@ -2,8 +2,8 @@
 //! packets are the deliveries of their blocks.
 
 use sarvoltig::{
-    map_words, Accepted, Delivered, Encoding, Intake, Record, Refusal, Reply, Table, Text, Track,
-    Walk, BLOCK,
+    map_words, Accepted, Delivered, Encoding, Intake, ListedRow, Record, Refusal, Reply, Row,
+    Table, Text, Track, Walk, BLOCK,
 };
 use sarvoltig_reference::generate::{export, Expected, ExpectedTable, Export, Options};
 use sarvoltig_reference::model::Encoding as Expects;
@@ -90,13 +90,47 @@ fn same_encoding(found: Encoding, expected: Expects) -> bool {
     )
 }
 
-fn check_table(intake: &Intake, expected: &ExpectedTable) {
+/// The present entries of a page's row index, each with the place of its row (rules 5.1 to 5.6).
+fn present_entries(file: &[u8], len_page: u32, page: u32) -> Vec<(u32, u32)> {
+    let number = |at: u32| u16::from_le_bytes([file[at as usize], file[at as usize + 1]]);
+    let start = page * len_page;
+    let entries = u32::from(number(start + 0x18) & 0x1fff);
+    let mut present = Vec::new();
+    for entry in 0..entries {
+        let group_end = start + len_page - 36 * (entry / 16);
+        if number(group_end - 4) >> (entry % 16) & 1 == 1 {
+            let offset = number(group_end - 6 - 2 * (entry % 16));
+            present.push((entry, start + 0x28 + u32::from(offset)));
+        }
+    }
+    present
+}
+
+/// The rows found on each page are its present entries, in their order.
+fn check_entries(intake: &Intake, table: Table, len_page: u32) {
+    let rows = intake.rows(table).expect("a good table");
+    let found = |row: ListedRow| {
+        let Row { page, entry, .. } = row.read().expect("found");
+        (page, (entry, row.place()))
+    };
+    let found: Vec<_> = rows.iter().map(found).collect();
+    let mut pages: Vec<u32> = rows.places().iter().map(|p| p / len_page).collect();
+    pages.dedup();
+    let expected = pages.into_iter().flat_map(|page| {
+        let entries = present_entries(intake.image(), len_page, page);
+        entries.into_iter().map(move |entry| (page, entry))
+    });
+    assert_eq!(found, expected.collect::<Vec<_>>());
+}
+
+fn check_table(intake: &Intake, expected: &ExpectedTable, len_page: u32) {
     let table = Table::from_number(expected.table.number().into()).expect("one of the ten");
     if let Some(fault) = expected.fault {
-        let refused = Refusal::RowIndex(fault.carries);
+        let refused = Refusal::new(fault.number.into(), fault.value, fault.entry);
         assert_eq!(intake.rows(table).err(), Some(refused));
         return;
     }
+    check_entries(intake, table, len_page);
     let rows = intake.rows(table).expect("a good table");
     let full = Walk::Full {
         rows: expected.rows.len() as u64,
@@ -122,12 +156,13 @@ fn check_table(intake: &Intake, expected: &ExpectedTable) {
 #[test]
 fn finds_what_was_put_there() {
     for seed in 0..60 {
-        let Export { bytes, expected } = export(&Options::random(&mut Rng::new(seed)));
+        let options = Options::random(&mut Rng::new(seed));
+        let Export { bytes, expected } = export(&options);
         with_intake(&bytes, |intake| {
             expected
                 .tables
                 .iter()
-                .for_each(|table| check_table(intake, table));
+                .for_each(|table| check_table(intake, table, options.len_page));
         });
     }
 }
@@ -159,8 +194,8 @@ fn check_rows(intake: &Intake, kept: &mut HashMap<Table, Vec<u32>>) {
         };
         assert_eq!(rows.len() as u64, rows.walk().rows());
         for row in &rows {
-            let record = intake.record(table, row.number()).expect("found");
-            assert_eq!(Some(row.record().expect("found")), record.found());
+            let asked = intake.record(table, row.number()).expect("found");
+            assert_eq!(Some(row.read().expect("found")), asked.found());
         }
         check_list(intake, table, rows.places());
         if let Some(list) = kept.insert(table, rows.into_places()) {
@@ -296,7 +331,8 @@ fn a_list_waits_for_its_page() {
     }
     let found = intake.record_in(Table::Tracks, &[row.place], 0);
     let found = found.expect("a row").found().expect("found");
-    assert_eq!(numbers(found), row.numbers);
+    assert_eq!(found.page, page);
+    assert_eq!(numbers(found.record), row.numbers);
 }
 
 #[test]
@@ -322,7 +358,7 @@ fn answers_of(intake: &Intake) -> String {
         answers += &format!("{:?}\n", rows.as_ref().map(|rows| rows.walk()));
         for row in rows.iter().flatten() {
             let texts: Vec<_> = (0..21).map(|slot| row.text(slot)).collect();
-            answers += &format!("{} {:?} {texts:?}\n", row.place(), row.record());
+            answers += &format!("{} {:?} {texts:?}\n", row.place(), row.read());
         }
     }
     answers
@@ -376,6 +412,131 @@ fn export_of_row(table: Table, row: &[u8]) -> Vec<u8> {
     file
 }
 
+fn put_u16(file: &mut [u8], at: usize, number: u16) {
+    file[at..at + 2].copy_from_slice(&number.to_le_bytes());
+}
+
+fn put_u32(file: &mut [u8], at: usize, number: u32) {
+    file[at..at + 4].copy_from_slice(&number.to_le_bytes());
+}
+
+/// Page 1 of an export of one row gets 19 index entries, of which 2 and 18 are present, with these offsets.
+fn with_entries_2_and_18(mut file: Vec<u8>, offsets: [u16; 2]) -> Vec<u8> {
+    put_u32(&mut file, PAGE + 0x18, 19 + (2 << 13));
+    put_u16(&mut file, 2 * PAGE - 4, 1 << 2);
+    put_u16(&mut file, 2 * PAGE - 6 - 2 * 2, offsets[0]);
+    put_u16(&mut file, 2 * PAGE - 36 - 4, 1 << 2);
+    put_u16(&mut file, 2 * PAGE - 36 - 6 - 2 * 2, offsets[1]);
+    file
+}
+
+/// A genre of id 7 with an empty name.
+const GENRE: &[u8] = b"\x07\0\0\0\x03";
+
+#[test]
+fn two_entries_of_one_row_are_two_rows() {
+    let album: &[u8] = b"\x03\0\0\0\0\0\0\0\x08\0\0\0\x09\0\0\0\0\0\0\0\0\0";
+    let (artist_id, id) = (8, 9);
+    let tables = [
+        (Table::Genres, GENRE, Record::Genre { id: 7 }),
+        (Table::Albums, album, Record::Album { artist_id, id }),
+    ];
+    for (table, row, record) in tables {
+        let file = with_entries_2_and_18(export_of_row(table, row), [0, 0]);
+        with_intake(&file, |intake| {
+            let rows = intake.rows(table).expect("a good table");
+            assert_eq!(rows.places(), [ROW as u32; 2]);
+            for (listed, entry) in rows.iter().zip([2, 18]) {
+                let page = 1;
+                let row = Row {
+                    page,
+                    entry,
+                    record,
+                };
+                assert_eq!(listed.read(), Ok(row));
+                assert_eq!(listed.record(), Ok(record));
+                let asked = intake.record(table, listed.number());
+                assert_eq!(asked, Ok(Reply::Found(row)));
+                let read = intake.record_in(table, rows.places(), listed.number());
+                assert_eq!(read, Ok(Reply::Found(row)));
+            }
+        });
+    }
+}
+
+/// What all rows, record 0 and its string are refused with.
+fn refused_walk(intake: &Intake, table: Table) -> Refusal {
+    let refusal = intake.rows(table).expect_err("a fault");
+    assert_eq!(intake.record(table, 0), Err(refusal));
+    assert_eq!(intake.text(table, 0, 0), Err(refusal));
+    refusal
+}
+
+/// What element `i` of a list and its string are refused with.
+fn refused_element(intake: &Intake, table: Table, list: &[u32], i: u64) -> Refusal {
+    let refusal = intake.record_in(table, list, i).expect_err("a fault");
+    assert_eq!(intake.text_in(table, list, i, 0), Err(refusal));
+    refusal
+}
+
+/// At offset 0 stands a genre, at 16 one whose name is malformed, and at 430 none fits.
+#[test]
+fn a_fault_of_a_row_has_its_entry() {
+    let short = |entry| Refusal::RowShort { page: 1, entry };
+    let text = |entry| Refusal::TextFault { page: 1, entry };
+    let faults = [
+        ([430, 0], [Some(short(2)), None]),
+        ([0, 430], [None, Some(short(18))]),
+        ([16, 0], [Some(text(2)), None]),
+        ([0, 16], [None, Some(text(18))]),
+        ([16, 430], [Some(text(2)), Some(short(18))]),
+        ([430, 16], [Some(short(2)), Some(text(18))]),
+    ];
+    for (offsets, refusals) in faults {
+        let file = with_entries_2_and_18(export_of_row(Table::Genres, GENRE), offsets);
+        let list = offsets.map(|offset| ROW as u32 + u32::from(offset));
+        with_intake(&file, |intake| {
+            let first = refusals.into_iter().flatten().next();
+            assert_eq!(Some(refused_walk(intake, Table::Genres)), first);
+            for (i, refusal) in (0..).zip(refusals) {
+                match refusal {
+                    Some(refusal) => {
+                        let refused = refused_element(intake, Table::Genres, &list, i);
+                        assert_eq!(refused, refusal);
+                    }
+                    None => assert!(intake.record_in(Table::Genres, &list, i).is_ok()),
+                }
+            }
+        });
+    }
+}
+
+#[test]
+fn a_page_header_is_wrong_in_its_number_or_its_type() {
+    let (genres, keys) = (Table::Genres.number(), Table::Keys.number());
+    let headers = [
+        (2, genres, Refusal::PageNumber(1)),
+        (0x0100_0001, genres, Refusal::PageNumber(1)),
+        (1, keys, Refusal::PageType(1)),
+        (1, 0x0100_0001, Refusal::PageType(1)),
+        (2, keys, Refusal::PageNumber(1)),
+    ];
+    for (page_index, page_type, refusal) in headers {
+        // with and without flag 40, which says that the page has no rows
+        for page_flags in [0x24, 0x64] {
+            let mut file = export_of_row(Table::Genres, GENRE);
+            put_u32(&mut file, PAGE + 0x04, page_index);
+            put_u32(&mut file, PAGE + 0x08, page_type);
+            file[PAGE + 0x1b] = page_flags;
+            with_intake(&file, |intake| {
+                assert_eq!(refused_walk(intake, Table::Genres), refusal);
+                let read = refused_element(intake, Table::Genres, &[ROW as u32], 0);
+                assert_eq!(read, refusal);
+            });
+        }
+    }
+}
+
 /// The room from the row's start to the index, and the length of a track's fixed part.
 const ROOM: usize = 2 * PAGE - 6 - ROW;
 const FIXED: usize = 0x88;
@@ -414,7 +575,7 @@ fn in_slots_0_and_1(string: &[u8]) -> [Answer; 2] {
     })
 }
 
-const TEXT_FAULT: Refusal = Refusal::TextFault(1);
+const TEXT_FAULT: Refusal = Refusal::TextFault { page: 1, entry: 0 };
 
 /// A text that stands so many bytes into a string behind the fixed part.
 fn text(head: usize, bytes: &[u8], encoding: Encoding) -> Answer {
@@ -720,14 +881,70 @@ fn texts_are_decoded() {
     assert_eq!(text(b"\x3d\xd8!\0", Encoding::Utf16Le), "\u{fffd}!");
 }
 
+/// Every refusal of value 5 and index entry 6, as far as it has them, by its number.
+const REFUSALS: [(u32, Refusal); 26] = [
+    (1, Refusal::Length),
+    (2, Refusal::ImageShort),
+    (3, Refusal::MapShort),
+    (4, Refusal::MapSpare),
+    (5, Refusal::BlockNumber),
+    (6, Refusal::PieceSize),
+    (7, Refusal::BlockDiffers),
+    (8, Refusal::TableType),
+    (9, Refusal::FileHeader),
+    (10, Refusal::NoPointer),
+    (11, Refusal::PageLink(5)),
+    (12, Refusal::PageNumber(5)),
+    (13, Refusal::RowIndex(5)),
+    (14, Refusal::RowShort { page: 5, entry: 6 }),
+    (15, Refusal::TextFault { page: 5, entry: 6 }),
+    (16, Refusal::ChainLoop),
+    (17, Refusal::ListShort(5)),
+    (18, Refusal::NoRow),
+    (19, Refusal::NoSlot),
+    (20, Refusal::AnlzHeader),
+    (21, Refusal::Section),
+    (22, Refusal::NoGrid),
+    (23, Refusal::GridLength),
+    (24, Refusal::BarPosition),
+    (25, Refusal::PageType(5)),
+    (
+        26,
+        Refusal::Other {
+            number: 26,
+            value: 5,
+            entry: 6,
+        },
+    ),
+];
+
 #[test]
-fn refusals_have_their_numbers() {
-    for number in 1..=30 {
-        let refusal = Refusal::new(number, 5);
+fn refusals_have_number_value_and_entry() {
+    for (number, refusal) in REFUSALS {
+        assert_eq!(Refusal::new(number, 5, 6), refusal);
         assert_eq!(refusal.number(), number);
-        let carries = matches!(number, 11..=15 | 17 | 25..);
-        assert_eq!(refusal.carries(), if carries { 5 } else { 0 });
-        assert_eq!(refusal.is_file_fault(), (9..=16).contains(&number));
-        assert!(!refusal.to_string().is_empty());
+        let has_value = matches!(number, 11..=15 | 17 | 25 | 26);
+        assert_eq!(refusal.value(), if has_value { 5 } else { 0 });
+        let has_entry = matches!(number, 14 | 15 | 26);
+        assert_eq!(refusal.entry(), if has_entry { 6 } else { 0 });
+        let is_file_fault = matches!(number, 9..=16 | 25);
+        assert_eq!(refusal.is_file_fault(), is_file_fault, "{number}");
+    }
+}
+
+#[test]
+fn refusals_are_told_apart_in_words() {
+    let words: HashSet<String> = REFUSALS.iter().map(|(_, r)| r.to_string()).collect();
+    assert_eq!(words.len(), REFUSALS.len());
+    assert!(!words.contains(""));
+    let told = [
+        (12, "page 7 has another page's number"),
+        (14, "the row of entry 3 on page 7 does not fit"),
+        (15, "a string in the row of entry 3 on page 7 is malformed"),
+        (25, "page 7 is of another table"),
+        (26, "refusal 26 with 7 and entry 3"),
+    ];
+    for (number, words) in told {
+        assert_eq!(Refusal::new(number, 7, 3).to_string(), words);
     }
 }

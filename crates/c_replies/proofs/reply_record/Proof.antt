@@ -6,8 +6,8 @@ use Rattle.c_replies.proofs.reply_record.Tie as tie
 enum-known-answer : tie.Need-enum-known-answer
 enum-known-answer c = search needs
 
-put-record-requires : tie.Need-put-record-requires
-put-record-requires c κs = search needs
+put-row-requires : tie.Need-put-row-requires
+put-row-requires c κs = search needs
 
 enum-known-answer-2 : tie.Need-enum-known-answer-2
 enum-known-answer-2 c = search needs
@@ -25,7 +25,7 @@ same-length : tie.Need-same-length
 same-length c = search needs
 
 returns : tie.Need-returns
-returns c = rw (c .before .before .before .before .before .answer .given .1) (c .before .before .put-record .ensures)
+returns c = rw (c .before .before .before .before .before .answer .given .1) (c .before .before .put-row .ensures)
 
 same-length-2 : tie.Need-same-length-2
 same-length-2 c = search needs
@@ -44,7 +44,7 @@ reply-record-spec =
     tie.close
     (tie.spec
     enum-known-answer
-    put-record-requires
+    put-row-requires
     enum-known-answer-2
     wait-requires
     enum-known-answer-3

@@ -1,6 +1,7 @@
--- `chain::row` meets its contract: the directory's answer chooses the case of `chainPlaces`.
+-- `chain::row` meets its contract: the directory's answer chooses the case of `chainRows`.
 use mathlib.Core.Path.{sym}
 use borrow.Author.Needs.{needs}
+use Rattle.page.specs.Found.{noRow}
 use Rattle.lists.proofs.Nth.{nth-none}
 use Rattle.chain.proofs.row.Statement.{statement}
 use Rattle.chain.proofs.row.Tie as tie
@@ -23,7 +24,7 @@ returns c = rw (← c .before .before .before .before .chain .ensures, c .before
 returns-2 : tie.Need-returns-2
 returns-2 c =
     let k = c .before .before .before .before .args .k in
-    rw (← c .before .before .chain .ensures, c .enum-told .given .1) (sym (nth-none k 0))
+    rw (← c .before .before .chain .ensures, c .enum-told .given .1) (sym (nth-none noRow k 0))
 
 pub row-spec : {M : Type 1} → statement M
 row-spec =

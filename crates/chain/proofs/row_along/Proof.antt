@@ -2,7 +2,7 @@
 use native.Mathlib.Omega.{arith}
 use borrow.Author.Needs.{needs}
 use Rattle.chain.proofs.PagePart.{part-next}
-use Rattle.chain.proofs.RowLoop.{Locating, begin, here, next, end, still-before}
+use Rattle.chain.proofs.RowLoop.{Locating, row-on, begin, here, next, end, still-before}
 use Rattle.chain.proofs.row_along.Statement.{statement}
 use Rattle.chain.proofs.row_along.Tie as tie
 
@@ -15,33 +15,36 @@ abbrev μ-loop : tie.MeasureT-loop
 loop-holds : tie.Need-loop-holds Inv-loop μ-loop
 loop-holds c = begin _ _ _ _ _
 
-sub-row-on : tie.Need-sub-row-on Inv-loop μ-loop
-sub-row-on c = search needs
+part-requires : tie.Need-part-requires Inv-loop μ-loop
+part-requires c κs = search needs
 
-row-on-requires : tie.Need-row-on-requires Inv-loop μ-loop
-row-on-requires c κs = search needs
+sub-row-at : tie.Need-sub-row-at Inv-loop μ-loop
+sub-row-at c = search (needs, c .before .before .loop .inv .before)
 
-enum-known-place : tie.Need-enum-known-place Inv-loop μ-loop
-enum-known-place c = search needs
+row-at-requires : tie.Need-row-at-requires Inv-loop μ-loop
+row-at-requires c κs = search needs
+
+enum-known-row : tie.Need-enum-known-row Inv-loop μ-loop
+enum-known-row c = search needs
 
 returns : tie.Need-returns Inv-loop μ-loop
 returns c =
     let told = c .before in
-    let turn = told .before .before .before in
-    here (turn .before .loop .inv) (turn .loop-test .taken) (rw (told .place .given .1) at (told .before .before .row-on .ensures))
+    let part = told .before .before .before in
+    let turn = part .before in
+    let found = row-on _ _ _ _ (part .part .ensures) (told .before .before .row-at .ensures) in
+    here (turn .before .loop .inv) (turn .loop-test .taken) (rw (told .row .given .1) at found)
 
-enum-known-place-2 : tie.Need-enum-known-place-2 Inv-loop μ-loop
-enum-known-place-2 c = search needs
+enum-known-row-2 : tie.Need-enum-known-row-2 Inv-loop μ-loop
+enum-known-row-2 c = search needs
 
 add-found : tie.Need-add-found Inv-loop μ-loop
 add-found c =
     let told = c .before in
-    let turn = told .before .before .before in
-    let kept = still-before (turn .before .loop .inv) (rw (told .place2 .given .1) at (told .before .before .row-on .ensures)) in
+    let part = told .before .before .before in
+    let found = row-on _ _ _ _ (part .part .ensures) (told .before .before .row-at .ensures) in
+    let kept = still-before (part .before .before .loop .inv) (rw (told .row2 .given .1) at found) in
     omega arith
-
-part-requires : tie.Need-part-requires Inv-loop μ-loop
-part-requires c κs = search needs
 
 next-requires : tie.Need-next-requires Inv-loop μ-loop
 next-requires c κs = search needs
@@ -54,10 +57,11 @@ loop-less c = search needs
 
 loop-again : tie.Need-loop-again Inv-loop μ-loop
 loop-again c =
-    let told = c .before .before .before in
-    let turn = told .before .before .before in
-    let past = rw (told .place2 .given .1) at (told .before .before .row-on .ensures) in
-    next (turn .before .loop .inv) (turn .loop-test .taken) past (part-next _ _ _ (c .before .part .ensures) (c .next .ensures))
+    let told = c .before .before in
+    let part = told .before .before .before in
+    let turn = part .before in
+    let found = row-on _ _ _ _ (part .part .ensures) (told .before .before .row-at .ensures) in
+    next (turn .before .loop .inv) (turn .loop-test .taken) (rw (told .row2 .given .1) at found) (part-next _ _ _ (part .part .ensures) (c .next .ensures))
 
 returns-2 : tie.Need-returns-2 Inv-loop μ-loop
 returns-2 c = end (c .before .loop .inv) (c .loop-test .left)
@@ -69,13 +73,13 @@ row-along-spec =
     Inv-loop
     μ-loop
     loop-holds
-    sub-row-on
-    row-on-requires
-    enum-known-place
-    returns
-    enum-known-place-2
-    add-found
     part-requires
+    sub-row-at
+    row-at-requires
+    enum-known-row
+    returns
+    enum-known-row-2
+    add-found
     next-requires
     sub-left
     loop-less

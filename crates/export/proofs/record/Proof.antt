@@ -5,9 +5,9 @@ use Rattle.intake.specs.Memory.{memory}
 use Rattle.chain.specs.Found.{Found, thenFound}
 use Rattle.table_walk.specs.Walk.{pageSize, tableWalk}
 use Rattle.export.specs.Record.{askRecord}
-use Rattle.export.specs.Private.{RowPlace, recordOn}
+use Rattle.export.specs.Private.{SizedRow, recordIn}
 use Rattle.table_walk.proofs.AskedTable.{asked-sound}
-use Rattle.export.proofs.RowAnswer.{by-place}
+use Rattle.export.proofs.RowAnswer.{by-row}
 use borrow.Author.Needs.{needs}
 use Rattle.export.proofs.record.Statement.{statement}
 use Rattle.export.proofs.record.Tie as tie
@@ -40,8 +40,8 @@ returns c =
     let m = memory (a .image .now) (a .map .now) in
     rw (← ask .asked .ensures, told .table .given .1)
     (c .record-from .ensures
-    ∙ ap (λ (x : Answer (Found RowPlace)). thenFound x (recordOn (told .table .given .0 .0) (a .image .now))) (find .find-row .ensures)
-    ∙ by-place (pageSize m) (a .k) (recordOn (told .table .given .0 .0) (a .image .now)) (tableWalk (a .intake .len) m (told .table .given .0 .0)))
+    ∙ ap (λ (x : Answer (Found SizedRow)). thenFound x (recordIn (told .table .given .0 .0) (a .image .now))) (find .find-row .ensures)
+    ∙ by-row (pageSize m) (a .k) (recordIn (told .table .given .0 .0) (a .image .now)) (tableWalk (a .intake .len) m (told .table .given .0 .0)))
 
 returns-2 : tie.Need-returns-2
 unfolding askRecord

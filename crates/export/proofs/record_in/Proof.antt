@@ -5,8 +5,8 @@ use Rattle.intake.specs.Memory.{memory}
 use Rattle.chain.specs.Found.{Found, thenFound}
 use Rattle.table_walk.specs.Walk.{pageSize}
 use Rattle.export.specs.FromList.{tableListed, askRecordIn}
-use Rattle.export.specs.Private.{RowPlace, recordOn}
-use Rattle.export.proofs.ListedStart.{listed-place}
+use Rattle.export.specs.Private.{SizedRow, recordIn}
+use Rattle.export.proofs.ListedStart.{listed-row}
 use borrow.Author.Needs.{needs}
 use Rattle.export.proofs.record_in.Statement.{statement}
 use Rattle.export.proofs.record_in.Tie as tie
@@ -36,8 +36,8 @@ returns c =
     let m = memory (a .image .now) (a .map .now) in
     rw (← ask .asked .ensures, told .table .given .1)
     (c .record-from .ensures
-    ∙ ap (λ (x : Answer (Found RowPlace)). thenFound x (recordOn (told .table .given .0 .0) (a .image .now))) (find .find-listed .ensures)
-    ∙ listed-place (pageSize m) (tableListed (a .intake .len) m (a .list .now) (a .i) (told .table .given .0 .0)) (recordOn (told .table .given .0 .0) (a .image .now)))
+    ∙ ap (λ (x : Answer (Found SizedRow)). thenFound x (recordIn (told .table .given .0 .0) (a .image .now))) (find .find-listed .ensures)
+    ∙ listed-row (pageSize m) (tableListed (a .intake .len) m (a .list .now) (a .i) (told .table .given .0 .0)) (recordIn (told .table .given .0 .0) (a .image .now)))
 
 returns-2 : tie.Need-returns-2
 unfolding askRecordIn

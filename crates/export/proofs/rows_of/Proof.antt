@@ -1,7 +1,7 @@
 -- `export::rows_of` meets its contract: what the walk counted says which case of `settleRows` it is (proofs/RowsAnswer, TablePlaces).
 use borrow.Author.Needs.{needs}
 use Rattle.intake.specs.Memory.{memory}
-use Rattle.table_walk.specs.Walk.{tableWalk}
+use Rattle.table_walk.specs.Walk.{pageSize, tableWalk}
 use Rattle.export.proofs.RowsAnswer.{rows-short, rows-refused}
 use Rattle.export.proofs.TablePlaces.{table-rows}
 use Rattle.export.proofs.rows_of.Statement.{statement}
@@ -19,7 +19,7 @@ returns c =
     let walk = told .before .before .before in
     let a = walk .before .before .before .before .args in
     let m = memory (a .image .now) (a .map .now) in
-    rows-short (a .list .now) (tableWalk (a .len) m (a .table)) (rw (told .walked .given .1) at (walk .walk-table .ensures .0)) (c .if1 .taken)
+    rows-short (pageSize m) (a .list .now) (tableWalk (a .len) m (a .table)) (rw (told .walked .given .1) at (walk .walk-table .ensures .0)) (c .if1 .taken)
 
 fill-requires : tie.Need-fill-requires
 fill-requires c κs = search needs
@@ -33,7 +33,7 @@ returns-2 c =
     let walk = told .before .before .before in
     let a = walk .before .before .before .before .args in
     let m = memory (a .image .now) (a .map .now) in
-    rows-short (a .list .now) (tableWalk (a .len) m (a .table)) (rw (told .walked2 .given .1) at (walk .walk-table .ensures .0)) (c .if2 .taken)
+    rows-short (pageSize m) (a .list .now) (tableWalk (a .len) m (a .table)) (rw (told .walked2 .given .1) at (walk .walk-table .ensures .0)) (c .if2 .taken)
 
 fill-requires-2 : tie.Need-fill-requires-2
 fill-requires-2 c κs = search needs
@@ -77,7 +77,7 @@ returns-5 c =
     let walk = told .before .before .before in
     let a = walk .before .before .before .before .args in
     let m = memory (a .image .now) (a .map .now) in
-    rows-refused (a .list .now) (tableWalk (a .len) m (a .table)) (rw (told .walked3 .given .1) at (walk .walk-table .ensures .0))
+    rows-refused (pageSize m) (a .list .now) (tableWalk (a .len) m (a .table)) (rw (told .walked3 .given .1) at (walk .walk-table .ensures .0))
 
 pub rows-of-spec : {M : Type 1} → statement M
 rows-of-spec =

@@ -7,9 +7,9 @@ use Rattle.table_walk.specs.Asked.{askedTable}
 use Rattle.table_walk.specs.Walk.{pageSize, tableWalk}
 use Rattle.export.specs.Row.{settleRow}
 use Rattle.export.specs.Text.{TextPlace, textOn, textAt, askText}
-use Rattle.export.specs.Private.{RowPlace}
+use Rattle.export.specs.Private.{SizedRow}
 use Rattle.table_walk.proofs.AskedTable.{slot-sound, slot-then}
-use Rattle.export.proofs.RowAnswer.{by-place}
+use Rattle.export.proofs.RowAnswer.{by-row}
 use borrow.Author.Needs.{needs}
 use Rattle.export.proofs.text.Statement.{statement}
 use Rattle.export.proofs.text.Tie as tie
@@ -40,15 +40,15 @@ returns c =
     let ask = told .before .before in
     let a = ask .before .before .before .args in
     let m = memory (a .image .now) (a .map .now) in
-    let answer : RowPlace → Answer (Found TextPlace) = λ at. textOn (at .size) (a .image .now) (told .table .given .0 .0) (a .slot) (at .place) in
+    let answer : SizedRow → Answer (Found TextPlace) = λ at. textOn (at .size) (a .image .now) (told .table .given .0 .0) (a .slot) (at .row) in
     rw (
       ← slot-then (a .slot) (λ table. settleRow (textAt m table (a .slot)) (a .k) (tableWalk (a .intake .len) m table)) (askedTable (a .intake .len) m (a .number)),
       ← ask .asked-slot .ensures,
       told .table .given .1,
     )
     (c .text-from .ensures
-    ∙ ap (λ (x : Answer (Found RowPlace)). thenFound x answer) (find .find-row .ensures)
-    ∙ by-place (pageSize m) (a .k) answer (tableWalk (a .intake .len) m (told .table .given .0 .0)))
+    ∙ ap (λ (x : Answer (Found SizedRow)). thenFound x answer) (find .find-row .ensures)
+    ∙ by-row (pageSize m) (a .k) answer (tableWalk (a .intake .len) m (told .table .given .0 .0)))
 
 returns-2 : tie.Need-returns-2
 unfolding askText

@@ -7,9 +7,9 @@ use Rattle.table_walk.specs.Asked.{askedTable}
 use Rattle.table_walk.specs.Walk.{pageSize}
 use Rattle.export.specs.Text.{TextPlace, textOn, textAt}
 use Rattle.export.specs.FromList.{tableListed, askTextIn}
-use Rattle.export.specs.Private.{RowPlace}
+use Rattle.export.specs.Private.{SizedRow}
 use Rattle.table_walk.proofs.AskedTable.{slot-then}
-use Rattle.export.proofs.ListedStart.{listed-place}
+use Rattle.export.proofs.ListedStart.{listed-row}
 use borrow.Author.Needs.{needs}
 use Rattle.export.proofs.text_in.Statement.{statement}
 use Rattle.export.proofs.text_in.Tie as tie
@@ -37,15 +37,15 @@ returns c =
     let ask = told .before .before in
     let a = ask .before .before .before .before .args in
     let m = memory (a .image .now) (a .map .now) in
-    let answer : RowPlace → Answer (Found TextPlace) = λ at. textOn (at .size) (a .image .now) (told .table .given .0 .0) (a .slot) (at .place) in
+    let answer : SizedRow → Answer (Found TextPlace) = λ at. textOn (at .size) (a .image .now) (told .table .given .0 .0) (a .slot) (at .row) in
     rw (
       ← slot-then (a .slot) (λ table. thenFound (tableListed (a .intake .len) m (a .list .now) (a .i) table) (textAt m table (a .slot))) (askedTable (a .intake .len) m (a .number)),
       ← ask .asked-slot .ensures,
       told .table .given .1,
     )
     (c .text-from .ensures
-    ∙ ap (λ (x : Answer (Found RowPlace)). thenFound x answer) (find .find-listed .ensures)
-    ∙ listed-place (pageSize m) (tableListed (a .intake .len) m (a .list .now) (a .i) (told .table .given .0 .0)) answer)
+    ∙ ap (λ (x : Answer (Found SizedRow)). thenFound x answer) (find .find-listed .ensures)
+    ∙ listed-row (pageSize m) (tableListed (a .intake .len) m (a .list .now) (a .i) (told .table .given .0 .0)) answer)
 
 returns-2 : tie.Need-returns-2
 unfolding askTextIn

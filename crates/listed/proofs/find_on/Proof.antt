@@ -1,7 +1,6 @@
 -- `listed::find_on` meets its contract: the row that was read says whether its place is the answer.
 use borrow.Author.Needs.{needs}
 use native.Mathlib.Omega.{arith}
-use native.Mathlib.Nat.{mod-lt}
 use Rattle.listed.proofs.find_on.Statement.{statement}
 use Rattle.listed.proofs.find_on.Tie as tie
 
@@ -11,26 +10,23 @@ div-page c = search needs
 rem-start : tie.Need-rem-start
 rem-start c = search needs
 
-cast-start : tie.Need-cast-start
-cast-start c = let a = c .before .args in omega (arith, mod-lt (a .place) (c .before .pre))
-
 part-requires : tie.Need-part-requires
 part-requires c κs = search needs
 
 read-row-requires : tie.Need-read-row-requires
 read-row-requires c κs = search needs
 
-enum-told : tie.Need-enum-told
-enum-told c = search needs
-
 enum-known-read : tie.Need-enum-known-read
 enum-known-read c = search needs
 
+enum-known-read-2 : tie.Need-enum-known-read-2
+enum-known-read-2 c = search needs
+
 returns : tie.Need-returns
-returns c = let read = c .before .before in rw (← read .before .part .ensures, ← read .read-row .ensures, c .enum-told .given .1)
+returns c = let read = c .before .before .before in rw (← read .before .part .ensures, ← read .read-row .ensures, c .before .read .given .1)
 
 returns-2 : tie.Need-returns-2
-returns-2 c = let read = c .before .before .before in rw (← read .before .part .ensures, ← read .read-row .ensures, c .before .read .given .1)
+returns-2 c = let read = c .before .before .before in rw (← read .before .part .ensures, ← read .read-row .ensures, c .before .read2 .given .1)
 
 pub find-on-spec : {M : Type 1} → statement M
 find-on-spec =
@@ -38,10 +34,9 @@ find-on-spec =
     (tie.spec
     div-page
     rem-start
-    cast-start
     part-requires
     read-row-requires
-    enum-told
     enum-known-read
+    enum-known-read-2
     returns
     returns-2)

@@ -9,7 +9,7 @@ use Rattle.page.proofs.check_at.Statement.{statement}
 use Rattle.page.proofs.check_at.Tie as tie
 
 returns : tie.Need-returns
-returns c = rw (drop-of-length-le (c .before .before .args .rows .now) (le-of-lt (c .if1 .taken)), empty-row (c .before .before .args .table))
+returns c = rw (drop-of-length-le (c .before .before .args .before .now) (le-of-lt (c .if1 .taken)), empty-row (c .before .before .args .table))
 
 sub-check-row : tie.Need-sub-check-row
 sub-check-row c = search needs

@@ -1,11 +1,11 @@
--- `page::fill` meets its contract: the entries that are read are those of `rowStarts`.
+-- `page::fill` meets its contract: the entries that are read are those of `rowEntries`.
 use mathlib.Core.Path.{sym, _∙_, refl}
 use Prim.Native.Nat.{ℕ, _+_}
 use native.Mathlib.Omega.{arith}
 use lib.ListN.{length-map}
 use borrow.Author.Needs.{needs}
-use Rattle.page.specs.Index.{presentFrom}
-use Rattle.page.proofs.RowStarts.{entries-room, starts-read, places-low, places-high}
+use Rattle.page.specs.Index.{rowStart, presentFrom}
+use Rattle.page.proofs.RowEntries.{entries-room, entries-kept, places-low, places-high}
 use Rattle.page.proofs.fill.Statement.{statement}
 use Rattle.page.proofs.fill.Tie as tie
 
@@ -42,8 +42,8 @@ returns-2 c =
     let read = c .before .before .before .before in
     let a = read .before .before .before .before .before .args in
     let wrote = c .before .before .fill-rows .ensures in
-    rw (places-low (a .page .now) (a .start) (omega arith), starts-read (a .page .now) (read .before .row-index .ensures .0) (read .entries-read .ensures))
-    (wrote .0 ∙ sym (length-map (presentFrom (a .page .now) (read .entries-read .result) 0) (λ (row : ℕ). a .start + row)), wrote .1)
+    rw (places-low (a .page .now) (a .start) (omega arith), entries-kept (a .page .now) (read .before .row-index .ensures .0) (read .entries-read .ensures))
+    (wrote .0 ∙ sym (length-map (presentFrom (a .page .now) (read .entries-read .result) 0) (λ (i : ℕ). a .start + rowStart (a .page .now) i)), wrote .1)
 
 pub fill-spec : {M : Type 1} → statement M
 fill-spec =

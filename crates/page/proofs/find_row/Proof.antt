@@ -10,27 +10,26 @@ use Rattle.page.proofs.find_row.Statement.{statement}
 use Rattle.page.proofs.find_row.Tie as tie
 
 abbrev Inv-loop : tie.InvT-loop
-Inv-loop page n k i₀ found₀ i found = Finding page n k i found
+Inv-loop page number n k i₀ found₀ i found = Finding number page n k i found
 
 abbrev μ-loop : tie.MeasureT-loop
-μ-loop page n k i₀ found₀ i found = n - i
+μ-loop page number n k i₀ found₀ i found = n - i
 
 loop-holds : tie.Need-loop-holds Inv-loop μ-loop
-loop-holds c = begin _ _ _
+loop-holds c = begin _ _ _ _
 
 is-present-requires : tie.Need-is-present-requires Inv-loop μ-loop
 is-present-requires c κs = omega (arith, entry-room _ _ (c .loop-test .taken))
 
-row-start-requires : tie.Need-row-start-requires Inv-loop μ-loop
-row-start-requires c κs = omega (arith, entry-room _ _ (c .before .before .before .loop-test .taken))
+row-of-requires : tie.Need-row-of-requires Inv-loop μ-loop
+row-of-requires c κs = omega (arith, entry-room _ _ (c .before .before .before .loop-test .taken))
 
 returns : tie.Need-returns Inv-loop μ-loop
 returns c =
     let test = c .before .before in
     let turn = test .before .before in
-    let start = c .row-start .ensures in
     let present = sym (test .before .is-present .ensures) ∙ test .if1 .taken in
-    (here (turn .before .loop .inv) (turn .loop-test .taken) present (start .0) (c .before .if2 .taken), start .1)
+    here (turn .before .loop .inv) (turn .loop-test .taken) present (c .row-of .ensures) (c .before .if2 .taken)
 
 add-found : tie.Need-add-found Inv-loop μ-loop
 add-found c = search needs
@@ -51,7 +50,7 @@ loop-again c =
     (c .if1 .came)
 
 returns-2 : tie.Need-returns-2 Inv-loop μ-loop
-returns-2 c = (end (c .before .loop .inv) (c .loop-test .left), tt)
+returns-2 c = end (c .before .loop .inv) (c .loop-test .left)
 
 pub find-row-spec : {M : Type 1} → statement M
 find-row-spec =
@@ -61,7 +60,7 @@ find-row-spec =
     μ-loop
     loop-holds
     is-present-requires
-    row-start-requires
+    row-of-requires
     returns
     add-found
     add-i

@@ -1,8 +1,8 @@
--- `page::is_good` meets its contract: the fit is tested, and then the ones are compared (proofs/RowStarts).
+-- `page::is_good` meets its contract: the fit is tested, and then the ones are compared (proofs/RowEntries).
 use native.Mathlib.Omega.{arith}
 use borrow.Author.Needs.{needs}
 use Rattle.page.proofs.EntriesInside.{index-bound}
-use Rattle.page.proofs.RowStarts.{unfit-index, counted-index}
+use Rattle.page.proofs.RowEntries.{unfit-index, counted-index}
 use Rattle.page.proofs.is_good.Statement.{statement}
 use Rattle.page.proofs.is_good.Tie as tie
 

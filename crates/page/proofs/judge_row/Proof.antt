@@ -1,7 +1,10 @@
--- `page::judge_row` meets its contract: the check says which refusal it is, and the page is the one that it carries.
+-- `page::judge_row` meets its contract: the check says which refusal it is, and page and entry are the row's.
 use borrow.Author.Needs.{needs}
 use Rattle.page.proofs.judge_row.Statement.{statement}
 use Rattle.page.proofs.judge_row.Tie as tie
+
+cast-check-at : tie.Need-cast-check-at
+cast-check-at c = search needs
 
 check-at-requires : tie.Need-check-at-requires
 check-at-requires c κs = search needs
@@ -27,4 +30,12 @@ returns-3 c = rw (← c .before .before .check-at .ensures, c .enum-told3 .given
 pub judge-row-spec : {M : Type 1} → statement M
 judge-row-spec =
     tie.close
-    (tie.spec check-at-requires enum-told enum-told-2 enum-told-3 returns returns-2 returns-3)
+    (tie.spec
+    cast-check-at
+    check-at-requires
+    enum-told
+    enum-told-2
+    enum-told-3
+    returns
+    returns-2
+    returns-3)

@@ -10,10 +10,10 @@ use Rattle.page.proofs.read_rows.Statement.{statement}
 use Rattle.page.proofs.read_rows.Tie as tie
 
 abbrev Inv-loop : tie.InvT-loop
-Inv-loop page rows number table n i₀ found₀ i found = Reading number table page rows n i found
+Inv-loop page before number table n i₀ found₀ i found = Reading number table page before n i found
 
 abbrev μ-loop : tie.MeasureT-loop
-μ-loop page rows number table n i₀ found₀ i found = n - i
+μ-loop page before number table n i₀ found₀ i found = n - i
 
 loop-holds : tie.Need-loop-holds Inv-loop μ-loop
 loop-holds c = begin _ _ _ _ _
@@ -21,8 +21,8 @@ loop-holds c = begin _ _ _ _ _
 is-present-requires : tie.Need-is-present-requires Inv-loop μ-loop
 is-present-requires c κs = omega (arith, entry-room _ _ (c .loop-test .taken))
 
-row-start-requires : tie.Need-row-start-requires Inv-loop μ-loop
-row-start-requires c κs =
+row-of-requires : tie.Need-row-of-requires Inv-loop μ-loop
+row-of-requires c κs =
     let at = c .before .before in
     omega (arith, entry-room _ _ (at .loop-test .taken))
 
@@ -44,7 +44,7 @@ returns c =
     let test = judge .before .before in
     let turn = test .before .before in
     fault (turn .before .loop .inv) (turn .loop-test .taken) (sym (test .before .is-present .ensures) ∙ test .if1 .taken)
-    (judge .before .row-start .ensures .0) (c .before .judged .given .1) (judge .judge-row .ensures)
+    (judge .before .row-of .ensures) (c .before .judged .given .1) (judge .judge-row .ensures)
 
 add-i : tie.Need-add-i Inv-loop μ-loop
 add-i c = search needs
@@ -57,7 +57,7 @@ loop-again c =
     let turn = c .before .before in
     let inv = turn .before .loop .inv in
     let told = c .before .is-present .ensures in
-    ⊎-elim (λ w. rw (w .5) (good inv (turn .loop-test .taken) (sym told ∙ w .0 .taken) (w .1 .ensures .0) (w .4 .given .1) (w .2 .ensures)))
+    ⊎-elim (λ w. rw (w .5) (good inv (turn .loop-test .taken) (sym told ∙ w .0 .taken) (w .1 .ensures) (w .4 .given .1) (w .2 .ensures)))
     (λ w. rw (w .1) (absent inv (turn .loop-test .taken) (sym told ∙ w .0 .left)))
     (c .if1 .came)
 
@@ -72,7 +72,7 @@ read-rows-spec =
     μ-loop
     loop-holds
     is-present-requires
-    row-start-requires
+    row-of-requires
     judge-row-requires
     enum-told
     add-found

@@ -1,7 +1,7 @@
 -- `page::row_index` meets its contract: its fields are what the calls give.
 use mathlib.Core.Path.{refl}
 use native.Mathlib.Omega.{arith}
-use Rattle.page.proofs.RowStarts.{rowless-index, judged-index}
+use Rattle.page.proofs.RowEntries.{rowless-index, judged-index}
 use borrow.Author.Needs.{needs}
 use Rattle.page.proofs.row_index.Statement.{statement}
 use Rattle.page.proofs.row_index.Tie as tie

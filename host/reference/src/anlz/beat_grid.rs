@@ -60,7 +60,7 @@ pub fn grid(file: &[u8]) -> Result<Vec<Beat>, Refusal> {
 /// ```
 /// use sarvoltig_reference::{anlz::beats, model::Refusal};
 ///
-/// let no_grid = Refusal { number: 22, carries: 0 };
+/// let no_grid = Refusal { number: 22, value: 0, entry: 0 };
 /// assert_eq!(beats(b"PMAI\0\0\0\x0c\0\0\0\x0c"), Err(no_grid));
 /// ```
 pub fn beats(file: &[u8]) -> Result<u32, Refusal> {
@@ -76,7 +76,7 @@ pub fn beats(file: &[u8]) -> Result<u32, Refusal> {
 /// ```
 /// use sarvoltig_reference::{anlz::{beat, generate}, model::Refusal};
 ///
-/// let no_beat = Refusal { number: 18, carries: 0 };
+/// let no_beat = Refusal { number: 18, value: 0, entry: 0 };
 /// assert_eq!(beat(&generate::demo(), u64::MAX), Err(no_beat));
 /// ```
 pub fn beat(file: &[u8], k: u64) -> Result<Beat, Refusal> {

@@ -74,7 +74,7 @@ impl Section {
 /// use sarvoltig_reference::{anlz::sections, model::Refusal};
 ///
 /// assert_eq!(sections(b"PMAI\0\0\0\x0c\0\0\0\x0c"), Ok(vec![]));
-/// let header = Refusal { number: 20, carries: 0 };
+/// let header = Refusal { number: 20, value: 0, entry: 0 };
 /// assert_eq!(sections(b"PMAI\0\0\0\x0c\0\0\0\x0d"), Err(header));
 /// ```
 pub fn sections(file: &[u8]) -> Result<Vec<Section>, Refusal> {

@@ -160,15 +160,19 @@ impl Target<'_> {
             past if past > 0 && self.rng.chance(1, 2) => entries + self.rng.index(past),
             _ => self.rng.index(entries),
         };
-        let flags_at = self.layout().flags_at(page, entry);
-        let flags = u16_at(self.bytes, flags_at) ^ 1 << (entry % 16);
-        self.put(flags_at, &flags.to_le_bytes());
+        self.flip_presence(page, entry);
         if self.rng.chance(1, 2) {
             self.correct_num_rows(page);
         }
     }
 
-    fn correct_num_rows(&mut self, page: u32) {
+    pub fn flip_presence(&mut self, page: u32, entry: usize) {
+        let flags_at = self.layout().flags_at(page, entry);
+        let flags = u16_at(self.bytes, flags_at) ^ 1 << (entry % 16);
+        self.put(flags_at, &flags.to_le_bytes());
+    }
+
+    pub fn correct_num_rows(&mut self, page: u32) {
         let entries = usize::from(self.layout().row_counts(page).num_row_offsets);
         let present = self.present_among(page, entries);
         self.put_row_counts(page, entries, present);

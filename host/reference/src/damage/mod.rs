@@ -33,6 +33,8 @@ pub enum Kind {
     PageIndex,
     /// type of a page.
     PageType,
+    /// page_index and type of a page, sometimes with flag `40`.
+    PageIndexAndType,
     /// next_page of a page.
     NextPage,
     /// next_page of a page becomes that page or one before it in the chain.
@@ -61,6 +63,8 @@ pub enum Kind {
     RowStart,
     /// A row whose fixed part ends near the index.
     RowAtEnd,
+    /// The last row of a page or the last two, behind rows that become absent.
+    LateRows,
     /// The offset of a string.
     StringOffset,
     /// The head of a string.
@@ -84,7 +88,7 @@ pub enum Kind {
 
 impl Kind {
     /// All kinds.
-    pub const ALL: [Kind; 32] = [
+    pub const ALL: [Kind; 34] = [
         Kind::FirstBytes,
         Kind::LenPage,
         Kind::NumTables,
@@ -94,6 +98,7 @@ impl Kind {
         Kind::LastPage,
         Kind::PageIndex,
         Kind::PageType,
+        Kind::PageIndexAndType,
         Kind::NextPage,
         Kind::Loop,
         Kind::NumRowOffsets,
@@ -108,6 +113,7 @@ impl Kind {
         Kind::RowOffset,
         Kind::RowStart,
         Kind::RowAtEnd,
+        Kind::LateRows,
         Kind::StringOffset,
         Kind::StringHead,
         Kind::StringAtEnd,
@@ -126,22 +132,22 @@ impl Kind {
 
     /// Kinds about pointers, links and what a page says it is.
     fn of_links() -> &'static [Kind] {
-        &Kind::ALL[4..11]
+        &Kind::ALL[4..12]
     }
 
     /// Kinds about the counts and the presence flags of a page.
     fn of_counts() -> &'static [Kind] {
-        &Kind::ALL[11..20]
+        &Kind::ALL[12..21]
     }
 
     /// Kinds about rows and strings.
     fn of_rows() -> &'static [Kind] {
-        &Kind::ALL[20..26]
+        &Kind::ALL[21..28]
     }
 
     /// Kinds about recording codes, for files with tracks.
     fn of_codes() -> &'static [Kind] {
-        &Kind::ALL[26..29]
+        &Kind::ALL[28..31]
     }
 }
 
@@ -197,6 +203,7 @@ pub fn apply(kind: Kind, export: &mut [u8], rng: &mut Rng) {
         Kind::LastPage => target.pointer_link(0x0c),
         Kind::PageIndex => target.page_link(0x04),
         Kind::PageType => target.page_type(),
+        Kind::PageIndexAndType => target.page_index_and_type(),
         Kind::NextPage => target.page_link(0x0c),
         Kind::Loop => target.loop_in_chain(),
         Kind::NumRowOffsets => target.num_row_offsets(),
@@ -211,6 +218,7 @@ pub fn apply(kind: Kind, export: &mut [u8], rng: &mut Rng) {
         Kind::RowOffset => target.row_offset(),
         Kind::RowStart => target.row_start(),
         Kind::RowAtEnd => target.row_at_end(),
+        Kind::LateRows => target.late_rows(),
         Kind::StringOffset => target.string_offset(),
         Kind::StringHead => target.string_head(),
         Kind::StringAtEnd => target.string_at_end(),

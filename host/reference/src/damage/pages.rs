@@ -14,8 +14,25 @@ impl Target<'_> {
 
     pub fn page_type(&mut self) {
         if let Some(page) = self.page() {
-            let value = self.rng.below(20) as u32;
-            self.put(page + 0x08, &value.to_le_bytes());
+            self.put_any_type(page);
+        }
+    }
+
+    fn put_any_type(&mut self, page: usize) {
+        let value = self.rng.below(20) as u32;
+        self.put(page + 0x08, &value.to_le_bytes());
+    }
+
+    /// Both numbers that say which page it is; in one of two cases with flag `40`.
+    pub fn page_index_and_type(&mut self) {
+        if let Some(page) = self.page() {
+            let page_index = u32_at(self.bytes, page + 0x04).wrapping_add(1);
+            self.put(page + 0x04, &page_index.to_le_bytes());
+            self.put_any_type(page);
+            if self.rng.chance(1, 2) {
+                let page_flags = self.bytes[page + 0x1b] | 0x40;
+                self.put(page + 0x1b, &[page_flags]);
+            }
         }
     }
 

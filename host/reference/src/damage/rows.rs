@@ -67,6 +67,35 @@ impl Target<'_> {
         }
     }
 
+    /// The last row of a page gets a fault, or the last two each, and some of
+    /// those before become absent.
+    pub fn late_rows(&mut self) {
+        let mut rows = self.rows_of_page();
+        let late = 1 + self.rng.index(2);
+        let faulty = rows.split_off(rows.len().saturating_sub(late));
+        for row in rows {
+            if self.rng.chance(1, 2) {
+                self.flip_presence(row.page, row.entry);
+            }
+        }
+        for row in faulty {
+            self.correct_num_rows(row.page);
+            self.break_row(&row);
+        }
+    }
+
+    /// Gives a row a malformed string or, also where it has none, a start past
+    /// the page or a byte before the index.
+    fn break_row(&mut self, row: &Row) {
+        let string = self.string_at(row).filter(|_| self.rng.chance(1, 2));
+        let last_byte = row.heap.len().saturating_sub(1) as u16;
+        let offset = self.rng.pick(&[u16::MAX, last_byte]);
+        match string {
+            Some(at) => self.put_in_heap(row, at, &[0x00]),
+            None => self.put(row.offset_at, &offset.to_le_bytes()),
+        }
+    }
+
     pub fn string_offset(&mut self) {
         let Some(row) = self.row() else { return };
         if let Some((at, width)) = self.string_offset_at(&row) {

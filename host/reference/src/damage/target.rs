@@ -16,6 +16,8 @@ pub(super) struct Row {
     pub table: Table,
     /// The number of its page.
     pub page: u32,
+    /// The number of its entry.
+    pub entry: usize,
     /// Where the presence flags of its group stand.
     pub flags_at: usize,
     /// Where its offset stands.
@@ -79,6 +81,12 @@ impl<'a> Target<'a> {
         row.filter(|row| row.table == Table::Tracks)
     }
 
+    /// The present rows of a page of any chain, in the order of the index.
+    pub fn rows_of_page(&mut self) -> Vec<Row> {
+        let page = self.page_number();
+        page.map_or_else(Vec::new, |page| present_rows(self.layout(), page))
+    }
+
     fn row_of_chain(&mut self, pointer: usize) -> Option<Row> {
         let layout = self.layout();
         let mut rows: Vec<Row> = layout
@@ -95,12 +103,13 @@ fn present_rows(layout: Layout, page: u32) -> Vec<Row> {
     let Some(table) = Table::of_type(layout.page_type(page)) else {
         return Vec::new();
     };
-    let entries = layout.entries(page).into_iter();
+    let entries = layout.entries(page).into_iter().enumerate();
     entries
-        .filter(|entry| entry.present)
-        .map(|entry| Row {
+        .filter(|(_, entry)| entry.present)
+        .map(|(number, entry)| Row {
             table,
             page,
+            entry: number,
             flags_at: entry.flags_at,
             offset_at: entry.offset_at,
             start: entry.start,

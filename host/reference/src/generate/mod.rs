@@ -69,6 +69,10 @@ pub struct ExpectedTable {
 /// What a reader finds in a row.
 #[derive(Clone, Debug)]
 pub struct ExpectedRow {
+    /// The page that the row is on.
+    pub page: u32,
+    /// The entry of the page's row index that names it here; others may name it too.
+    pub entry: u32,
     /// The row's absolute byte offset.
     pub place: u32,
     /// The record's numbers, in the order of rule 5.16.

@@ -145,7 +145,8 @@ impl Page {
         }
     }
 
-    /// Adds entries up to a number that is near a limit.
+    /// Adds entries up to a number that is near a limit. Sometimes all of them
+    /// are absent but for some of the last.
     fn fill_up(&mut self, options: &Options, rng: &mut Rng) {
         let groups = options.len_page as usize / GROUP_SIZE;
         let group = match rng.chance(1, 2) {
@@ -158,7 +159,12 @@ impl Page {
         };
         let all_present = entries.min(RowCounts::MOST_ROWS);
         let (entries, present) = match rng.below(16) {
-            0..5 => (entries, 0),
+            0..2 => (entries, 0),
+            2..5 => {
+                let late = 1 + rng.index(3);
+                self.add_entries(entries.saturating_sub(late), 0, options, rng);
+                (entries, self.present + late)
+            }
             5..9 => (all_present, all_present),
             9..12 => (0, rng.pick(&PRESENT_AIMED_AT)),
             12..14 => (entries, rng.pick(&PRESENT_AIMED_AT)),

@@ -150,11 +150,7 @@ impl Writer<'_> {
             if !self.put_counts(start, page, past_last) {
                 fault = fault.or(Some(Refusal::of_page(13, numbers[place])));
             }
-            for (entry, offset) in page.entries.iter().zip(offsets) {
-                if let Some((row, chunk)) = &entry.row {
-                    rows.push(self.put_row(start + PAGE_HEADER + offset, row, chunk));
-                }
-            }
+            rows.extend(self.put_rows(numbers[place], &page.entries, &offsets));
         }
         ExpectedTable {
             table,
@@ -311,21 +307,36 @@ impl Writer<'_> {
         (self.rng.next_u64() as u16) << entries
     }
 
-    fn put_row(&mut self, place: usize, row: &Row, chunk: &Chunk) -> ExpectedRow {
+    /// Puts the rows of a page.
+    fn put_rows(&mut self, page: u32, entries: &[Entry], offsets: &[usize]) -> Vec<ExpectedRow> {
+        let heap = self.page_start(page) + PAGE_HEADER;
+        let mut rows = Vec::new();
+        for (entry, (Entry { row, .. }, offset)) in (0..).zip(entries.iter().zip(offsets)) {
+            if let Some((row, chunk)) = row {
+                let place = heap + offset;
+                rows.push(ExpectedRow {
+                    page,
+                    entry,
+                    place: place as u32,
+                    numbers: row.numbers.clone(),
+                    texts: self.put_row(place, row, chunk),
+                });
+            }
+        }
+        rows
+    }
+
+    fn put_row(&mut self, place: usize, row: &Row, chunk: &Chunk) -> Vec<ExpectedText> {
         for (offset, bytes) in &chunk.parts {
             self.file.put(place + offset, bytes);
         }
         let texts = row.texts.iter().zip(&chunk.texts);
-        ExpectedRow {
-            place: place as u32,
-            numbers: row.numbers.clone(),
-            texts: texts
-                .map(|(text, offset)| ExpectedText {
-                    place: (place + offset) as u64,
-                    bytes: text.bytes.clone(),
-                    encoding: text.encoding(),
-                })
-                .collect(),
-        }
+        texts
+            .map(|(text, offset)| ExpectedText {
+                place: (place + offset) as u64,
+                bytes: text.bytes.clone(),
+                encoding: text.encoding(),
+            })
+            .collect()
     }
 }

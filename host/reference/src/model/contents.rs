@@ -2,14 +2,18 @@
 
 use super::chain::walk;
 use super::question::{asked_table, Rows};
-use super::row::Text;
+use super::row::{Position, Text};
 use super::source::Source;
 use super::Refusal;
 
 /// A row with its record and its strings.
 #[derive(Clone, Copy, Debug, PartialEq, Eq)]
 pub struct RowContents<'a> {
-    /// The row's absolute byte offset.
+    /// The page that the row is on.
+    pub page: u32,
+    /// Its entry in the row index of the page.
+    pub entry: u32,
+    /// Its absolute byte offset.
     pub place: u32,
     /// The record's numbers, in the order of rule 5.16.
     pub numbers: &'a [u64],
@@ -31,8 +35,11 @@ pub(super) fn for_each_row(
         texts.clear();
         let text = |slot| row.text(slot).expect("a checked row has its strings");
         texts.extend((0..table.slots()).map(text));
+        let Position { page, entry, place } = row.position;
         visit(RowContents {
-            place: row.place,
+            page,
+            entry,
+            place,
             numbers: &numbers,
             texts: &texts,
         });

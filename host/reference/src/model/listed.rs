@@ -3,7 +3,7 @@
 use super::directory::Directory;
 use super::page::Page;
 use super::question::{asked_table, RecordReply, Search, TextReply};
-use super::row::Row;
+use super::row::{Position, Row};
 use super::source::Source;
 use super::{Refusal, Table, BLOCK_SIZE};
 
@@ -14,7 +14,7 @@ pub(super) fn record_in(
     i: u64,
 ) -> Result<RecordReply, Refusal> {
     let table = asked_table(table)?;
-    read_in(source, table, list, i, |row| Some(row.numbers())).map(Search::into)
+    read_in(source, table, list, i, |row| Some(row.record())).map(Search::into)
 }
 
 pub(super) fn text_in(
@@ -53,7 +53,8 @@ fn read_in<T>(
     };
     let page = Page::read(table, element.page, &bytes)?;
     let row = element.row(&page)?;
-    let found = read(&row).ok_or(Refusal::of_page(15, element.page))?;
+    let Position { page, entry, .. } = row.position;
+    let found = read(&row).ok_or(Refusal::of_entry(15, page, entry))?;
     Ok(Search::Found(found))
 }
 
@@ -90,16 +91,18 @@ impl Element {
             return Err(NO_SUCH_ROW);
         }
         let index = page.index()?;
-        if index.present_starts().nth(self.rank) != Some(self.start) {
-            return Err(NO_SUCH_ROW);
+        let entry = index.present_entries().nth(self.rank);
+        match entry {
+            Some(entry) if entry.start == self.start => index.row(entry),
+            _ => Err(NO_SUCH_ROW),
         }
-        index.row(self.start)
     }
 }
 
 const NO_SUCH_ROW: Refusal = Refusal {
     number: 18,
-    carries: 0,
+    value: 0,
+    entry: 0,
 };
 
 /// No walk is made, so no rows are found and no pages walked.

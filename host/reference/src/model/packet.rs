@@ -28,9 +28,9 @@ impl Session {
     /// assert_eq!(session.deliver_packet(&[1, 2, 1, 1], &pieces, &mut results), Ok(1));
     /// assert_eq!(results, [0, 5, 64, 7, 9]);
     ///
-    /// let wrong_size = Refusal { number: 6, carries: 0 };
+    /// let wrong_size = Refusal { number: 6, value: 0, entry: 0 };
     /// assert_eq!(session.deliver_packet(&[0], &[8; 511], &mut []), Err(wrong_size));
-    /// let short_list = Refusal { number: 17, carries: 1 };
+    /// let short_list = Refusal { number: 17, value: 1, entry: 0 };
     /// assert_eq!(session.deliver_packet(&[0], &[8; 512], &mut []), Err(short_list));
     /// assert_eq!(session.deliver_packet(&[], &[], &mut []), Ok(1));
     /// # Ok::<(), Refusal>(())
@@ -46,10 +46,7 @@ impl Session {
             return Err(Refusal::plain(6));
         }
         if results.len() < blocks.len() {
-            return Err(Refusal {
-                number: 17,
-                carries: blocks.len() as u64,
-            });
+            return Err(Refusal::with_value(17, blocks.len() as u64));
         }
         let pieces = pieces.chunks(BLOCK_SIZE);
         for ((block, piece), result) in blocks.iter().zip(pieces).zip(results.iter_mut()) {

@@ -1,7 +1,7 @@
 //! Page header and row index (rules 4.11 to 4.15, 5.1 to 5.10, 5.33).
 
 use super::bytes::{u16_at, u24_at, u32_at};
-use super::row::Row;
+use super::row::{Position, Row};
 use super::{Refusal, Table};
 
 /// The length of a page's header; row offsets count from its end.
@@ -94,15 +94,17 @@ impl<'a> Page<'a> {
     pub fn read(table: Table, number: u32, bytes: &'a [u8]) -> Result<Self, Refusal> {
         let page_index = u32_at(bytes, 0x04);
         let page_type = u32_at(bytes, 0x08);
-        if page_index == number && page_type == u32::from(table.number()) {
-            Ok(Page {
-                table,
-                number,
-                bytes,
-            })
-        } else {
-            Err(Refusal::of_page(12, number))
+        if page_index != number {
+            return Err(Refusal::of_page(12, number));
         }
+        if page_type != u32::from(table.number()) {
+            return Err(Refusal::of_page(25, number));
+        }
+        Ok(Page {
+            table,
+            number,
+            bytes,
+        })
     }
 
     pub fn next_page(&self) -> u32 {
@@ -150,8 +152,8 @@ impl<'a> Page<'a> {
             return Ok(());
         }
         let index = self.index()?;
-        for start in index.present_starts() {
-            visit(&index.row(start)?);
+        for entry in index.present_entries() {
+            visit(&index.row(entry)?);
         }
         Ok(())
     }
@@ -163,6 +165,15 @@ pub(super) struct Index<'p, 'a> {
     entries: usize,
     /// The page up to the index.
     heap: &'a [u8],
+}
+
+/// An entry of the row index that is a present row.
+#[derive(Clone, Copy)]
+pub(super) struct Entry {
+    /// Its number. All entries of the page count, the first is 0.
+    pub number: u32,
+    /// Where its row starts, counted from the page's start.
+    pub start: usize,
 }
 
 impl<'a> Index<'_, 'a> {
@@ -187,27 +198,35 @@ impl<'a> Index<'_, 'a> {
         self.present().count()
     }
 
-    /// Where each present row starts, counted from the page's start.
-    pub fn present_starts(&self) -> impl Iterator<Item = usize> + '_ {
-        self.present().map(|entry| {
-            let offsets_before = OFFSET_SIZE * (entry % GROUP_ENTRIES + 1);
-            let offset = u16_at(self.page.bytes, self.flags_at(entry) - offsets_before);
-            PAGE_HEADER + usize::from(offset)
+    /// The entries that are present rows, in the order of the index.
+    pub fn present_entries(&self) -> impl Iterator<Item = Entry> + '_ {
+        self.present().map(|number| {
+            let offsets_before = OFFSET_SIZE * (number % GROUP_ENTRIES + 1);
+            let offset = u16_at(self.page.bytes, self.flags_at(number) - offsets_before);
+            Entry {
+                number: number as u32,
+                start: PAGE_HEADER + usize::from(offset),
+            }
         })
     }
 
-    /// The row that starts `start` bytes into the page, once it is checked.
-    pub fn row(&self, start: usize) -> Result<Row<'a>, Refusal> {
+    /// The row of an entry, once it is checked.
+    pub fn row(&self, entry: Entry) -> Result<Row<'a>, Refusal> {
         let Page {
             table,
             number,
             bytes,
         } = *self.page;
         let page_place = number * bytes.len() as u32;
+        let position = Position {
+            page: number,
+            entry: entry.number,
+            place: page_place + entry.start as u32,
+        };
         self.heap
-            .get(start..)
+            .get(entry.start..)
             .ok_or(14)
-            .and_then(|row| Row::read(table, page_place + start as u32, row))
-            .map_err(|refusal| Refusal::of_page(refusal, number))
+            .and_then(|row| Row::read(table, position, row))
+            .map_err(|refusal| Refusal::of_entry(refusal, number, entry.number))
     }
 }

@@ -1,7 +1,7 @@
 //! The three questions (rules 5.19 to 5.25), over whatever blocks are held.
 
 use super::chain::{walk, Walked};
-use super::row::{Row, Text};
+use super::row::{Record, Row, Text};
 use super::source::Source;
 use super::string::Encoding;
 use super::{Refusal, Table};
@@ -40,8 +40,15 @@ pub enum Rows {
 /// The answer to the question for record k.
 #[derive(Clone, Debug, PartialEq, Eq)]
 pub enum RecordReply {
-    /// The record's numbers, in the order of rule 5.16.
-    Found(Vec<u64>),
+    /// The record.
+    Found {
+        /// The page that its row is on.
+        page: u32,
+        /// The row's entry in the row index of the page, counted from 0 with the absent ones.
+        entry: u32,
+        /// Its numbers, in the order of rule 5.16.
+        numbers: Vec<u64>,
+    },
     /// The record is not found yet.
     Waiting {
         /// The page waited for.
@@ -79,12 +86,9 @@ pub enum TextReply {
 pub(super) fn rows(source: &impl Source, table: u32, list: &mut [u32]) -> Result<Rows, Refusal> {
     let table = asked_table(table)?;
     let mut places = Vec::new();
-    let walked = walk(source, table, |_, row| places.push(row.place))?;
+    let walked = walk(source, table, |_, row| places.push(row.position.place))?;
     list.get_mut(..places.len())
-        .ok_or(Refusal {
-            number: 17,
-            carries: walked.rows,
-        })?
+        .ok_or(Refusal::with_value(17, walked.rows))?
         .copy_from_slice(&places);
     Ok(walked.into())
 }
@@ -105,7 +109,7 @@ impl From<Walked> for Rows {
 
 pub(super) fn record(source: &impl Source, table: u32, k: u64) -> Result<RecordReply, Refusal> {
     let table = asked_table(table)?;
-    search(source, table, k, |row| Some(row.numbers())).map(Search::into)
+    search(source, table, k, |row| Some(row.record())).map(Search::into)
 }
 
 pub(super) fn text(
@@ -132,10 +136,18 @@ pub(super) enum Search<T> {
     Waiting { page: u32, rows: u64, pages: u64 },
 }
 
-impl From<Search<Vec<u64>>> for RecordReply {
-    fn from(search: Search<Vec<u64>>) -> Self {
+impl From<Search<Record>> for RecordReply {
+    fn from(search: Search<Record>) -> Self {
         match search {
-            Search::Found(numbers) => RecordReply::Found(numbers),
+            Search::Found(Record {
+                page,
+                entry,
+                numbers,
+            }) => RecordReply::Found {
+                page,
+                entry,
+                numbers,
+            },
             Search::Waiting { page, rows, pages } => RecordReply::Waiting { page, rows, pages },
         }
     }

@@ -114,7 +114,7 @@ impl Received {
     ///
     /// # Errors
     ///
-    /// Refusals 8 to 17.
+    /// Refusals 8 to 17 and 25.
     pub fn rows(&self, table: impl Into<u32>, list: &mut [u32]) -> Result<Rows, Refusal> {
         question::rows(self, table.into(), list)
     }
@@ -123,7 +123,7 @@ impl Received {
     ///
     /// # Errors
     ///
-    /// Refusals 8 to 16 and 18.
+    /// Refusals 8 to 16, 18 and 25.
     pub fn record(&self, table: impl Into<u32>, k: u64) -> Result<RecordReply, Refusal> {
         question::record(self, table.into(), k)
     }
@@ -132,7 +132,7 @@ impl Received {
     ///
     /// # Errors
     ///
-    /// Refusals 8 to 16, 18 and 19.
+    /// Refusals 8 to 16, 18, 19 and 25.
     pub fn text(&self, table: impl Into<u32>, k: u64, slot: u64) -> Result<TextReply, Refusal> {
         question::text(self, table.into(), k, slot)
     }
@@ -141,7 +141,7 @@ impl Received {
     ///
     /// # Errors
     ///
-    /// Refusals 8, 9, 12 to 15 and 18.
+    /// Refusals 8, 9, 12 to 15, 18 and 25.
     pub fn record_in(
         &self,
         table: impl Into<u32>,
@@ -155,7 +155,7 @@ impl Received {
     ///
     /// # Errors
     ///
-    /// Refusals 8, 9, 12 to 15, 18 and 19.
+    /// Refusals 8, 9, 12 to 15, 18, 19 and 25.
     pub fn text_in(
         &self,
         table: impl Into<u32>,

@@ -5,14 +5,33 @@ use super::bytes::{u16_at, u32_at};
 use super::string::{read_string, Encoding};
 use super::Table;
 
+/// Where a row stands. Two entries may name one row, so its place does not say which entry it is of.
+#[derive(Clone, Copy)]
+pub(super) struct Position {
+    pub page: u32,
+    /// Its entry in the row index of the page.
+    pub entry: u32,
+    /// Its absolute byte offset.
+    pub place: u32,
+}
+
 /// A present row that fits and whose strings are well-formed.
+#[derive(Clone, Copy)]
 pub(super) struct Row<'a> {
     table: Table,
-    /// The row's absolute byte offset.
-    pub place: u32,
+    pub position: Position,
     strings: Strings,
     /// From the row's start to the index.
     bytes: &'a [u8],
+}
+
+/// A row's record.
+pub(super) struct Record {
+    pub page: u32,
+    /// The row's entry in the row index of the page.
+    pub entry: u32,
+    /// In the order of rule 5.16.
+    pub numbers: Vec<u64>,
 }
 
 /// A string's text in the file.
@@ -39,16 +58,16 @@ enum Strings {
 }
 
 impl<'a> Row<'a> {
-    /// The row at `place` whose bytes up to the index are `bytes`, or the
+    /// The row at `position` whose bytes up to the index are `bytes`, or the
     /// number of its refusal.
-    pub fn read(table: Table, place: u32, bytes: &'a [u8]) -> Result<Self, u8> {
+    pub fn read(table: Table, position: Position, bytes: &'a [u8]) -> Result<Self, u8> {
         let (fixed, strings) = layout(table, bytes).ok_or(14)?;
         if fixed > bytes.len() {
             return Err(14);
         }
         let row = Row {
             table,
-            place,
+            position,
             strings,
             bytes,
         };
@@ -69,17 +88,21 @@ impl<'a> Row<'a> {
         };
         let text = read_string(self.table, slot, self.bytes.get(offset..)?)?;
         Some(Text {
-            place: u64::from(self.place) + (offset + text.start) as u64,
+            place: u64::from(self.position.place) + (offset + text.start) as u64,
             len: text.len as u64,
             encoding: text.encoding,
         })
     }
 
-    /// The record's numbers, in the order of rule 5.16.
-    pub fn numbers(&self) -> Vec<u64> {
+    pub fn record(&self) -> Record {
+        let Position { page, entry, .. } = self.position;
         let mut numbers = Vec::new();
         self.append_numbers(&mut numbers);
-        numbers
+        Record {
+            page,
+            entry,
+            numbers,
+        }
     }
 
     /// Appends the record's numbers.

@@ -28,13 +28,13 @@ pub enum Delivered {
 /// use sarvoltig_reference::model::{Delivered, Refusal, Rows, Session};
 ///
 /// let mut session = Session::new(vec![7; 600], vec![u64::MAX; 1]);
-/// assert_eq!(session.rows(1u8, &mut []), Err(Refusal { number: 1, carries: 0 }));
+/// assert_eq!(session.rows(1u8, &mut []), Err(Refusal { number: 1, value: 0, entry: 0 }));
 /// assert_eq!(session.open(512), Ok(1));
 /// let waiting = Rows::Waiting { page: 0, rows: 0, pages: 0 };
 /// assert_eq!(session.rows(1u8, &mut []), Ok(waiting));
 /// assert_eq!(session.deliver(0, &[1; 512]), Ok(Delivered::New(1)));
 /// assert_eq!(session.deliver(0, &[1; 512]), Ok(Delivered::Same(1)));
-/// assert_eq!(session.rows(1u8, &mut []), Err(Refusal { number: 9, carries: 0 }));
+/// assert_eq!(session.rows(1u8, &mut []), Err(Refusal { number: 9, value: 0, entry: 0 }));
 /// ```
 #[derive(Clone, Debug)]
 pub struct Session {
@@ -61,7 +61,7 @@ impl Session {
     /// session.open(512)?;
     /// session.replace_buffers(vec![0; 511], vec![0; 1]);
     /// assert_eq!(session.file_len(), 512);
-    /// let too_short = Refusal { number: 2, carries: 0 };
+    /// let too_short = Refusal { number: 2, value: 0, entry: 0 };
     /// assert_eq!(session.deliver(0, &[0; 512]), Err(too_short));
     /// # Ok::<(), Refusal>(())
     /// ```
@@ -135,7 +135,7 @@ impl Session {
     /// session.open(1024)?;
     /// assert_eq!(session.deliver(1, &[5; 512])?, Delivered::New(1));
     /// assert_eq!(session.deliver(1, &[5; 512])?, Delivered::Same(1));
-    /// let other_bytes = Refusal { number: 7, carries: 0 };
+    /// let other_bytes = Refusal { number: 7, value: 0, entry: 0 };
     /// assert_eq!(session.deliver(1, &[6; 512]), Err(other_bytes));
     /// assert_eq!(session.image()[512..], [5; 512]);
     /// # Ok::<(), Refusal>(())
@@ -166,7 +166,7 @@ impl Session {
     ///
     /// # Errors
     ///
-    /// Refusals 1 to 4, 8 to 17; the list stays as it was.
+    /// Refusals 1 to 4, 8 to 17 and 25; the list stays as it was.
     ///
     /// ```
     /// # use sarvoltig_reference::{generate, model::{Rows, Session}};
@@ -190,7 +190,7 @@ impl Session {
     ///
     /// # Errors
     ///
-    /// Refusals 1 to 4, 8 to 16 and 18.
+    /// Refusals 1 to 4, 8 to 16, 18 and 25.
     ///
     /// ```
     /// # use sarvoltig_reference::{generate, model::{RecordReply, Session}};
@@ -200,7 +200,8 @@ impl Session {
     /// # for (block, piece) in (0..).zip(file.chunks(512)) {
     /// #     session.deliver(block, piece)?;
     /// # }
-    /// assert_eq!(session.record(1u8, 0)?, RecordReply::Found(vec![1]));
+    /// let first = RecordReply::Found { page: 14, entry: 0, numbers: vec![1] };
+    /// assert_eq!(session.record(1u8, 0)?, first);
     /// # Ok::<(), sarvoltig_reference::model::Refusal>(())
     /// ```
     pub fn record(&self, table: impl Into<u32>, k: u64) -> Result<RecordReply, Refusal> {
@@ -212,7 +213,7 @@ impl Session {
     ///
     /// # Errors
     ///
-    /// Refusals 1 to 4, 8 to 16, 18 and 19.
+    /// Refusals 1 to 4, 8 to 16, 18, 19 and 25.
     ///
     /// ```
     /// # use sarvoltig_reference::{generate, model::{Encoding, Session, TextReply}};
@@ -239,10 +240,10 @@ impl Session {
     ///
     /// # Errors
     ///
-    /// Refusals 1 to 4, 8, 9, 12 to 15 and 18.
+    /// Refusals 1 to 4, 8, 9, 12 to 15, 18 and 25.
     ///
     /// ```
-    /// # use sarvoltig_reference::{generate, model::{RecordReply, Session}};
+    /// # use sarvoltig_reference::{generate, model::Session};
     /// # let file = generate::demo();
     /// # let mut session = Session::new(file.clone(), vec![0; 8]);
     /// # session.open(file.len() as u64)?;
@@ -251,7 +252,7 @@ impl Session {
     /// # }
     /// let mut list = [0; 5];
     /// session.rows(1u8, &mut list)?;
-    /// assert_eq!(session.record_in(1u8, &list, 4)?, RecordReply::Found(vec![5]));
+    /// assert_eq!(session.record_in(1u8, &list, 4)?, session.record(1u8, 4)?);
     /// assert!(session.record_in(1u8, &list, 5).is_err());
     /// # Ok::<(), sarvoltig_reference::model::Refusal>(())
     /// ```
@@ -270,7 +271,7 @@ impl Session {
     ///
     /// # Errors
     ///
-    /// Refusals 1 to 4, 8, 9, 12 to 15, 18 and 19.
+    /// Refusals 1 to 4, 8, 9, 12 to 15, 18, 19 and 25.
     ///
     /// ```
     /// # use sarvoltig_reference::{generate, model::Session};
@@ -302,7 +303,7 @@ impl Session {
     ///
     /// # Errors
     ///
-    /// Refusals 1 to 4, 8 to 16.
+    /// Refusals 1 to 4, 8 to 16 and 25.
     ///
     /// ```
     /// # use sarvoltig_reference::{generate, model::{Rows, Session}};

@@ -20,8 +20,8 @@ pub struct Answer {
 /// use sarvoltig_reference::model::RecordReply;
 /// use sarvoltig_reference::schedule::Reply;
 ///
-/// let reply = Reply::Record(3, RecordReply::Found(vec![5, 7]));
-/// assert_eq!(reply.to_string(), "record 3 5,7");
+/// let album = RecordReply::Found { page: 9, entry: 2, numbers: vec![5, 7] };
+/// assert_eq!(Reply::Record(3, album).to_string(), "record 3 page 9 entry 2 5,7");
 /// ```
 #[derive(Clone, Debug, PartialEq, Eq)]
 pub enum Reply {
@@ -47,7 +47,7 @@ impl fmt::Display for Answer {
     fn fmt(&self, f: &mut fmt::Formatter<'_>) -> fmt::Result {
         match &self.reply {
             Ok(reply) => reply.fmt(f),
-            Err(Refusal { number, carries }) => write!(f, "refused {number} {carries} 0"),
+            Err(refusal) => refusal.fmt(f),
         }
     }
 }
@@ -62,9 +62,17 @@ impl fmt::Display for Reply {
             Reply::Rows(Rows::Full { rows, pages }) => {
                 write!(f, "done rows {rows} pages {pages}")
             }
-            Reply::Record(table, RecordReply::Found(numbers)) => {
+            Reply::Record(
+                table,
+                RecordReply::Found {
+                    page,
+                    entry,
+                    numbers,
+                },
+            ) => {
                 let numbers: Vec<String> = numbers.iter().map(u64::to_string).collect();
-                write!(f, "record {table} {}", numbers.join(","))
+                let numbers = numbers.join(",");
+                write!(f, "record {table} page {page} entry {entry} {numbers}")
             }
             Reply::Text(TextReply::Found {
                 place,

@@ -502,7 +502,7 @@ impl Planner<'_> {
         let reply = self.run.session().rows(table, &mut []);
         match reply {
             Ok(Rows::Full { rows, .. } | Rows::Waiting { rows, .. }) => rows,
-            Err(refusal) if refusal.number == 17 => refusal.carries,
+            Err(refusal) if refusal.number == 17 => refusal.value,
             Err(_) => 0,
         }
     }

@@ -9,6 +9,8 @@ use sarvoltig_reference::model::Refusal;
 use sarvoltig_reference::rng::Rng;
 use sarvoltig_reference::schedule::anlz_file;
 
+use crate::refused;
+
 /// A section of these bytes behind the envelope.
 fn section(code: &[u8; 4], len_header: u32, len_tag: u32, body: &[u8]) -> Vec<u8> {
     let mut bytes = code.to_vec();
@@ -49,13 +51,13 @@ fn other() -> Vec<u8> {
 }
 
 fn plain<T>(number: u8) -> Result<T, Refusal> {
-    Err(Refusal { number, carries: 0 })
+    refused(number, 0)
 }
 
 /// The number of beats, or the refusal's number.
 fn counted(file: &[u8]) -> Result<u32, u8> {
     beats(file).map_err(|refusal| {
-        assert_eq!(refusal.carries, 0);
+        assert_eq!((refusal.value, refusal.entry), (0, 0));
         refusal.number
     })
 }

@@ -4,12 +4,12 @@ use std::collections::BTreeSet;
 
 use sarvoltig_reference::damage::{apply, Kind};
 use sarvoltig_reference::generate::{demo, export, Options};
-use sarvoltig_reference::model::{RecordReply, Refusal, Rows, Session, Table};
+use sarvoltig_reference::model::{Refusal, Rows, Session, Table};
 use sarvoltig_reference::rng::Rng;
 
 use crate::desk::case_d;
 use crate::examples::{one_page, put_row_counts};
-use crate::{opened, whole};
+use crate::{found, opened, refused, whole};
 
 type Answer = Result<Rows, Refusal>;
 
@@ -21,7 +21,8 @@ fn full(rows: u64) -> Answer {
 
 const REFUSED: Answer = Err(Refusal {
     number: 13,
-    carries: 1,
+    value: 1,
+    entry: 0,
 });
 
 /// A file of two pages with playlist entries. Page 1 has these presence flags in
@@ -70,7 +71,7 @@ fn pages_have_more_than_255_entries() {
         let file = playlist(5120, 128, 0xffff, [entries, entries]);
         assert_eq!(rows(&file), full(entries.into()));
         let last = whole(&file).record(ENTRIES.number(), u64::from(entries) - 1);
-        assert_eq!(last, Ok(RecordReply::Found(vec![0; 3])));
+        assert_eq!(last, found([1, entries - 1], &[0; 3]));
     }
 }
 
@@ -132,19 +133,15 @@ fn a_wrong_number_of_present_rows_carries_its_page() {
     file.copy_within(512..1024, 1024);
     file[1024 + 0x04] = 2;
     put_row_counts(&mut file[1024..], 3, 2);
-    let refused = Refusal {
-        number: 13,
-        carries: 2,
-    };
     let entries = file.clone();
     let session = whole(&file);
-    assert_eq!(session.rows(8u8, &mut [0; 9]), Err(refused));
-    assert_eq!(session.record(8u8, 0), Err(refused));
+    assert_eq!(session.rows(8u8, &mut [0; 9]), refused(13, 2));
+    assert_eq!(session.record(8u8, 0), refused(13, 2));
     file[0x1c] = 1;
     file[512 + 0x08] = 1;
     file[1024 + 0x08] = 1;
     file[512 + 0x28 + 4] = 0x03;
-    assert_eq!(whole(&file).text(1u8, 0, 0), Err(refused));
+    assert_eq!(whole(&file).text(1u8, 0, 0), refused(13, 2));
     let mut waiting = opened(&entries);
     for block in 0..2 {
         let piece = &entries[512 * block as usize..][..512];
@@ -201,10 +198,9 @@ fn the_number_of_present_rows_is_compared_before_any_row_is_looked_at() {
         let index = [&offset[..], &[1, 0, 0, 0]].concat();
         let heap = [7, 0, 0, 0, 0x01];
         let asked = |present| whole(&one_page(1, &heap, [1, present], &index)).record(1u8, 0);
-        let refused = |number| Err(Refusal { number, carries: 1 });
-        assert_eq!(asked(1), refused(fault));
-        assert_eq!(asked(0), refused(13));
-        assert_eq!(asked(2), refused(13));
+        assert_eq!(asked(1), refused(fault, 1));
+        assert_eq!(asked(0), refused(13, 1));
+        assert_eq!(asked(2), refused(13, 1));
     }
 }
 
@@ -231,11 +227,7 @@ fn case_d_has_two_entries_and_one_present_row() {
         [2, 0x60, 0],
     ] {
         file[1024 + 0x18..1024 + 0x1b].copy_from_slice(&row_counts);
-        let refused = Refusal {
-            number: 13,
-            carries: 2,
-        };
-        assert_eq!(genres(&file), Err(refused));
+        assert_eq!(genres(&file), refused(13, 2));
     }
 }
 

@@ -126,6 +126,22 @@ fn the_name_in_case_d_is_at_1085() {
     assert_eq!(whole(&case_d()).text(1u8, 0, 0), Ok(found));
 }
 
+/// Page 1 of case D, which has flag `40`, with another number or another type.
+#[test]
+fn the_desk_tells_a_wrong_page_index_from_a_wrong_type() {
+    for (at, output) in [(0x04, "refused 12\n"), (0x08, "refused 25\n")] {
+        let mut file = case_d();
+        file[512 + at] = 2;
+        let mut input = vec![1, 0x00, 0x06, 0, 0];
+        for (number, block) in (0..).zip(file.chunks(512)) {
+            input.extend([2, number, 0, 0, 0]);
+            input.extend(block);
+        }
+        input.extend([3, 1]);
+        assert!(desk(&input).ends_with(output));
+    }
+}
+
 #[test]
 fn the_desk_stops_at_another_kind_and_at_a_short_body() {
     assert_eq!(desk(&[3, 1, 4, 3, 1]), "refused 1\nkind\n");

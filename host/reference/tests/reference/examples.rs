@@ -5,11 +5,7 @@ use sarvoltig_reference::model::{
     TextReply,
 };
 
-use crate::{opened, whole};
-
-fn refused<T>(number: u8, carries: u64) -> Result<T, Refusal> {
-    Err(Refusal { number, carries })
-}
+use crate::{found, opened, refused, whole};
 
 /// A file of two pages of 512 bytes; page 1 is the only page of table `table`.
 /// It has so many entries and so many present rows.
@@ -445,13 +441,63 @@ fn links_are_from_1_to_p_minus_1() {
     }
 }
 
+/// Page 1 with a wrong byte in each of these places, whatever its flags and its
+/// index are; what every question says.
+fn wrong_bytes(places: &[usize], page_flags: u8, entries: u32) -> Result<Rows, Refusal> {
+    let mut file = one_page(1, &[], [entries, 0], &[]);
+    file[512 + 0x1b] = page_flags;
+    places.iter().for_each(|at| file[512 + at] ^= 0x80);
+    let session = whole(&file);
+    let answer = session.rows(1u8, &mut []);
+    let refusal = answer.err();
+    assert_eq!(session.record(1u8, 0).err(), refusal);
+    assert_eq!(session.text(1u8, 0, 0).err(), refusal);
+    assert_eq!(session.record_in(1u8, &[512 + 0x28], 0).err(), refusal);
+    assert_eq!(session.text_in(1u8, &[512 + 0x28], 0, 0).err(), refusal);
+    answer
+}
+
+/// 209 entries do not fit.
 #[test]
-fn page_headers_agree() {
-    for at in (0x04..0x0c).map(|field| 512 + field) {
-        let mut file = one_page(1, &[], [0, 0], &[]);
-        file[at] ^= 0x80;
-        assert_eq!(whole(&file).rows(1u8, &mut []), refused(12, 1));
+fn a_wrong_page_index_is_12_and_after_it_a_wrong_type_is_25() {
+    for (page_flags, entries) in [(0x24, 0), (0x24, 209), (0x64, 0), (0x64, 209)] {
+        let asked = |places: &[usize]| wrong_bytes(places, page_flags, entries);
+        for index_byte in 0x04..0x08 {
+            assert_eq!(asked(&[index_byte]), refused(12, 1));
+            for type_byte in 0x08..0x0c {
+                assert_eq!(asked(&[index_byte, type_byte]), refused(12, 1));
+                assert_eq!(asked(&[type_byte]), refused(25, 1));
+            }
+        }
     }
+}
+
+/// The chain is pages 3, 1 and 2.
+#[test]
+fn the_first_page_whose_number_or_type_is_wrong_answers() {
+    let asked = |edits: &[(usize, u8)]| {
+        let mut file = one_page(1, &[], [0, 0], &[]);
+        file.resize(2048, 0);
+        file[0x1c + 0x08] = 3;
+        file[0x1c + 0x0c] = 2;
+        for (page, next_page) in [(3, 1), (1, 2), (2, 0)] {
+            file[512 * page + 0x04] = page as u8;
+            file[512 * page + 0x08] = 1;
+            file[512 * page + 0x0c] = next_page;
+        }
+        edits.iter().for_each(|(at, value)| file[*at] = *value);
+        whole(&file).rows(1u8, &mut [])
+    };
+    assert_eq!(asked(&[]), Ok(Rows::Full { rows: 0, pages: 3 }));
+    let other_type = |page: usize| (512 * page + 0x08, 2);
+    let other_index = |page: usize| (512 * page + 0x04, 9);
+    for page in 1..4 {
+        assert_eq!(asked(&[other_type(page)]), refused(25, page as u64));
+        assert_eq!(asked(&[other_index(page)]), refused(12, page as u64));
+    }
+    assert_eq!(asked(&[other_type(3), other_index(1)]), refused(25, 3));
+    assert_eq!(asked(&[other_index(2), other_type(1)]), refused(25, 1));
+    assert_eq!(asked(&[other_index(1), other_type(2)]), refused(12, 1));
 }
 
 /// Three pages; the chain of table 1 is page 1 and what `next_page` makes of it.
@@ -470,7 +516,7 @@ fn next_pages() {
     assert_eq!(asked(0, 1), refused(11, 1));
     assert_eq!(asked(3, 1), refused(11, 1));
     assert_eq!(asked(1, 1), refused(16, 0));
-    assert_eq!(asked(2, 2), refused(12, 2));
+    assert_eq!(asked(2, 2), refused(25, 2));
 }
 
 /// The chain is pages 1 and 2; page 1 has one row and page 2 is not held.
@@ -495,7 +541,7 @@ fn a_walk_that_waits_shows_the_rows_found() {
         Ok(Rows::Waiting { page, rows, pages })
     );
     assert_eq!(list, [512 + 0x28, 9]);
-    assert_eq!(session.record(8u8, 0), Ok(RecordReply::Found(vec![0; 3])));
+    assert_eq!(session.record(8u8, 0), found([1, 0], &[0; 3]));
     assert_eq!(
         session.record(8u8, 1),
         Ok(RecordReply::Waiting { page, rows, pages })

@@ -5,18 +5,17 @@ use std::collections::BTreeSet;
 use sarvoltig_reference::generate::{
     big, demo, export, Expected, ExpectedRow, ExpectedTable, Export, Large, Options,
 };
-use sarvoltig_reference::model::{
-    index_size, Encoding, RecordReply, Refusal, Rows, Session, Table, Text, TextReply,
-};
+use sarvoltig_reference::model::{index_size, Encoding, Rows, Session, Table, Text, TextReply};
 use sarvoltig_reference::rng::Rng;
 
-use crate::{opened, whole};
+use crate::{found, opened, refused, whole};
 
 /// Reads all records and strings in one pass.
 fn check_contents(session: &Session, expected: &ExpectedTable) {
     let mut rows = expected.rows.iter();
     let answer = session.for_each_row(expected.table.number(), |found| {
         let row = rows.next().expect("no more rows than expected");
+        assert_eq!((found.page, found.entry), (row.page, row.entry));
         assert_eq!((found.place, found.numbers), (row.place, &row.numbers[..]));
         let texts = row.texts.iter().map(|text| Text {
             place: text.place,
@@ -52,8 +51,8 @@ fn check_table(session: &Session, expected: &ExpectedTable, mut asked: impl FnMu
     for (k, row) in (0..).zip(&expected.rows) {
         assert_eq!(list[k as usize], row.place);
         if asked() {
-            let numbers = RecordReply::Found(row.numbers.clone());
-            assert_eq!(session.record(table, k), Ok(numbers));
+            let record = found([row.page, row.entry], &row.numbers);
+            assert_eq!(session.record(table, k), record);
         }
         for (slot, text) in (0..).zip(&row.texts) {
             if asked() {
@@ -68,11 +67,8 @@ fn check_table(session: &Session, expected: &ExpectedTable, mut asked: impl FnMu
             assert_eq!(bytes, text.bytes);
         }
     }
-    let too_large = Err(Refusal {
-        number: 18,
-        carries: 0,
-    });
-    assert_eq!(session.record(table, expected.rows.len() as u64), too_large);
+    let too_large = expected.rows.len() as u64;
+    assert_eq!(session.record(table, too_large), refused(18, 0));
 }
 
 fn check(file: &[u8], expected: &Expected, rng: &mut Rng) {
@@ -83,11 +79,7 @@ fn check(file: &[u8], expected: &Expected, rng: &mut Rng) {
     }
     let absent = |table: &Table| !expected.tables.iter().any(|other| other.table == *table);
     for table in Table::ALL.into_iter().filter(absent) {
-        let no_pointer = Refusal {
-            number: 10,
-            carries: 0,
-        };
-        assert_eq!(session.rows(table.number(), &mut []), Err(no_pointer));
+        assert_eq!(session.rows(table.number(), &mut []), refused(10, 0));
     }
 }
 

@@ -204,7 +204,7 @@ same 2 lent 14ec8d81
 new 3 lent 919bea38
 done rows 1 pages 2 lent bfe930bf
 refused 17 1 0 lent 919bea38
-record 1 7 lent 919bea38
+record 1 page 2 entry 1 7 lent 919bea38
 text 1085 4 ascii lent 919bea38
 refused 6 0 0 lent 919bea38
 refused 4 0 0 lent e2887577
@@ -277,7 +277,7 @@ wait page 0 rows 0 pages 0 lent b9d2e835
 new 1 lent 637014c9
 new 2 lent 14ec8d81
 text 1085 4 ascii lent 14ec8d81
-record 1 7 lent 14ec8d81
+record 1 page 2 entry 1 7 lent 14ec8d81
 wait page 1 rows 0 pages 0 lent 14ec8d81
 refused 18 0 0 lent 14ec8d81
 ";

@@ -1,19 +1,15 @@
 //! Rows read from a list of places.
 
 use sarvoltig_reference::model::{
-    RecordReply, Refusal, Rows, Session, Table, TextReply, BLOCK_SIZE,
+    Encoding, RecordReply, Refusal, Rows, Session, Table, TextReply, BLOCK_SIZE,
 };
 use sarvoltig_reference::rng::Rng;
 use sarvoltig_reference::schedule::random_file;
 
 use crate::desk::case_d;
-use crate::{opened, whole};
+use crate::{found, opened, refused, refused_at, whole};
 
 type Reply = Result<RecordReply, Refusal>;
-
-fn found(id: u64) -> Reply {
-    Ok(RecordReply::Found(vec![id]))
-}
 
 fn waiting(page: u32) -> Reply {
     Ok(RecordReply::Waiting {
@@ -21,10 +17,6 @@ fn waiting(page: u32) -> Reply {
         rows: 0,
         pages: 0,
     })
-}
-
-fn refused(number: u8, carries: u64) -> Reply {
-    Err(Refusal { number, carries })
 }
 
 /// Where the rows of [`genres`] start.
@@ -80,8 +72,15 @@ fn a_list_as_written_gives_the_rows() {
     let full = Rows::Full { rows: 5, pages: 2 };
     assert_eq!(whole(&genres()).rows(1u8, &mut written), Ok(full));
     assert_eq!(written, list);
-    for (i, id) in [1, 2, 2, 3, 4].into_iter().enumerate() {
-        assert_eq!(asked(&list, i as u64), found(id));
+    let records = [
+        ([1, 0], 1),
+        ([1, 1], 2),
+        ([1, 3], 2),
+        ([1, 4], 3),
+        ([3, 0], 4),
+    ];
+    for (i, (position, id)) in records.into_iter().enumerate() {
+        assert_eq!(asked(&list, i as u64), found(position, &[id]));
     }
 }
 
@@ -91,9 +90,9 @@ fn case_d_is_read_from_its_list() {
     let text = TextReply::Found {
         place: 1085,
         len: 4,
-        encoding: sarvoltig_reference::model::Encoding::Ascii,
+        encoding: Encoding::Ascii,
     };
-    assert_eq!(session.record_in(1u8, &[1080], 0), found(7));
+    assert_eq!(session.record_in(1u8, &[1080], 0), found([2, 1], &[7]));
     assert_eq!(session.text_in(1u8, &[1080], 0, 0), Ok(text));
 }
 
@@ -122,17 +121,17 @@ fn a_place_that_is_no_start_is_18() {
 
 #[test]
 fn the_rank_counts_elements_of_the_page_directly_before() {
-    assert_eq!(asked(&[B, B, B, C], 1), found(2));
-    assert_eq!(asked(&[C, A, B, C], 3), found(3));
+    assert_eq!(asked(&[B, B, B, C], 1), found([1, 1], &[2]));
+    assert_eq!(asked(&[C, A, B, C], 3), found([1, 4], &[3]));
     assert_eq!(asked(&[A, A], 1), refused(18, 0));
     assert_eq!(asked(&[A, B, B, B], 3), refused(18, 0));
     assert_eq!(asked(&[A, B, C], 2), refused(18, 0));
     assert_eq!(asked(&[A, B, B, C, C], 4), refused(18, 0));
-    assert_eq!(asked(&[D, A, B], 2), found(2));
+    assert_eq!(asked(&[D, A, B], 2), found([1, 1], &[2]));
     assert_eq!(asked(&[A, D, B], 2), refused(18, 0));
-    assert_eq!(asked(&[A, D, A], 2), found(1));
-    assert_eq!(asked(&[A, 0x28, A], 2), found(1));
-    assert_eq!(asked(&[512, 1023, B, C], 3), found(3));
+    assert_eq!(asked(&[A, D, A], 2), found([1, 0], &[1]));
+    assert_eq!(asked(&[A, 0x28, A], 2), found([1, 0], &[1]));
+    assert_eq!(asked(&[512, 1023, B, C], 3), found([1, 4], &[3]));
 }
 
 #[test]
@@ -149,27 +148,21 @@ fn pages_are_waited_for() {
         assert_eq!(session.record_in(1u8, &list, i), waiting(0));
     }
     deliver(&mut session, 0);
-    assert_eq!(session.record_in(1u8, &list, 0), found(1));
+    assert_eq!(session.record_in(1u8, &list, 0), found([1, 0], &[1]));
     assert_eq!(session.record_in(1u8, &list, 1), waiting(3));
     assert_eq!(session.record_in(1u8, &list, 2), refused(18, 0));
     assert_eq!(session.record_in(1u8, &list, 3), refused(18, 0));
     assert_eq!(session.record_in(1u8, &list, 4), waiting(2));
     assert_eq!(session.record_in(1u8, &list, 5), refused(18, 0));
     deliver(&mut session, 3);
-    assert_eq!(session.record_in(1u8, &list, 1), found(4));
+    assert_eq!(session.record_in(1u8, &list, 1), found([3, 0], &[4]));
 }
 
 #[test]
-fn a_page_of_another_header_is_12_before_all_else() {
-    assert_eq!(asked(&[1024 + 0x28], 0), refused(12, 2));
-    for at in 512 + 0x04..512 + 0x0c {
-        let edit = |file: &mut [u8]| {
-            file[at] ^= 0x80;
-            file[512 + 0x18] = 209;
-            file[512 + 0x1b] = 0x40;
-        };
-        assert_eq!(edited(edit, &[A], 0), refused(12, 1));
-    }
+fn a_page_of_another_table_is_25() {
+    assert_eq!(asked(&[1024 + 0x28], 0), refused(25, 2));
+    assert_eq!(asked(&[A, 1024, D], 1), refused(25, 2));
+    assert_eq!(whole(&genres()).record_in(2u8, &[A, B], 1), refused(25, 1));
 }
 
 #[test]
@@ -188,7 +181,7 @@ fn an_index_that_does_not_fit_is_13_whatever_the_place() {
     let edit = |file: &mut [u8]| file[512 + 0x18] = 209;
     assert_eq!(edited(edit, &[A], 0), refused(13, 1));
     assert_eq!(edited(edit, &[A + 1], 0), refused(13, 1));
-    assert_eq!(edited(edit, &[A, D], 1), found(4));
+    assert_eq!(edited(edit, &[A, D], 1), found([3, 0], &[4]));
 }
 
 /// Page 1 has 5 entries, of which 4 are present.
@@ -206,18 +199,20 @@ fn a_wrong_number_of_present_rows_is_13_whatever_the_place() {
         assert_eq!(edited(edit, &[A], 0), refused(13, 1));
         assert_eq!(edited(edit, &[A + 1], 0), refused(13, 1));
         assert_eq!(edited(edit, &[A, B, B, C, C], 4), refused(13, 1));
-        assert_eq!(edited(edit, &[A, D], 1), found(4));
+        assert_eq!(edited(edit, &[A, D], 1), found([3, 0], &[4]));
     }
 }
 
 #[test]
-fn a_wrong_number_of_present_rows_comes_after_12_and_flag_40_and_before_the_row() {
+fn a_wrong_number_of_present_rows_comes_after_the_header_and_before_the_row() {
     let wrong_count = |file: &mut [u8]| file[512 + 0x19] = 0x60;
-    let wrong_page_index = |file: &mut [u8]| {
-        wrong_count(file);
-        file[512 + 0x04] = 2;
-    };
-    assert_eq!(edited(wrong_page_index, &[A], 0), refused(12, 1));
+    for (at, number) in [(0x04, 12), (0x08, 25)] {
+        let wrong_header = |file: &mut [u8]| {
+            wrong_count(file);
+            file[512 + at] = 9;
+        };
+        assert_eq!(edited(wrong_header, &[A], 0), refused(number, 1));
+    }
     let without_rows = |file: &mut [u8]| {
         wrong_count(file);
         file[512 + 0x1b] = 0x40;
@@ -236,12 +231,22 @@ fn a_wrong_number_of_present_rows_comes_after_12_and_flag_40_and_before_the_row(
 fn only_the_row_itself_is_checked() {
     let list = [A, B, B, C];
     let malformed = |file: &mut [u8]| file[B as usize + 4] = 0x01;
-    let answers = [found(1), refused(15, 1), refused(15, 1), found(3)];
+    let answers = [
+        found([1, 0], &[1]),
+        refused_at(15, 1, 1),
+        refused_at(15, 1, 3),
+        found([1, 4], &[3]),
+    ];
     for (i, answer) in answers.into_iter().enumerate() {
         assert_eq!(edited(malformed, &list, i as u64), answer);
     }
     let outside = |file: &mut [u8]| file[1024 - 8..1024 - 6].copy_from_slice(&[0xff, 0xff]);
-    let answers = [found(1), refused(18, 0), found(2), found(3)];
+    let answers = [
+        found([1, 0], &[1]),
+        refused(18, 0),
+        found([1, 3], &[2]),
+        found([1, 4], &[3]),
+    ];
     for (i, answer) in answers.into_iter().enumerate() {
         assert_eq!(edited(outside, &list, i as u64), answer);
     }
@@ -252,11 +257,11 @@ fn only_the_row_itself_is_checked() {
 #[test]
 fn pointers_and_links_are_not_looked_at() {
     let no_pointer = |file: &mut [u8]| file[0x1c] = 9;
-    assert_eq!(edited(no_pointer, &[A, B], 1), found(2));
+    assert_eq!(edited(no_pointer, &[A, B], 1), found([1, 1], &[2]));
     let outside = |file: &mut [u8]| file[0x1c + 0x08] = 200;
-    assert_eq!(edited(outside, &[A, B], 1), found(2));
+    assert_eq!(edited(outside, &[A, B], 1), found([1, 1], &[2]));
     let next_page = |file: &mut [u8]| file[512 + 0x0c] = 1;
-    assert_eq!(edited(next_page, &[A, B], 1), found(2));
+    assert_eq!(edited(next_page, &[A, B], 1), found([1, 1], &[2]));
     let broken = |file: &mut [u8]| file[0x00] = 1;
     assert_eq!(edited(broken, &[], 0), refused(9, 0));
 }
@@ -269,11 +274,10 @@ fn type_and_slot_come_before_the_file() {
     assert_eq!(session.record_in(9u8, &[], 0), refused(8, 0));
     assert_eq!(session.record_in(1u32 << 8, &[], 0), refused(8, 0));
     let text_in = |table: u8, slot| session.text_in(table, &[], 0, slot);
-    let refused = |number| Err(Refusal { number, carries: 0 });
-    assert_eq!(text_in(9, 21), refused(8));
-    assert_eq!(text_in(0, 21), refused(19));
-    assert_eq!(text_in(0, 1 << 32), refused(19));
-    assert_eq!(text_in(8, 0), refused(19));
+    assert_eq!(text_in(9, 21), refused(8, 0));
+    assert_eq!(text_in(0, 21), refused(19, 0));
+    assert_eq!(text_in(0, 1 << 32), refused(19, 0));
+    assert_eq!(text_in(8, 0), refused(19, 0));
     assert!(matches!(text_in(0, 20), Ok(TextReply::Waiting { .. })));
 }
 

@@ -3,6 +3,7 @@
 mod anlz;
 mod counts;
 mod desk;
+mod entries;
 mod examples;
 mod generated;
 mod lines;
@@ -11,7 +12,30 @@ mod packets;
 mod refusals;
 mod runs;
 
-use sarvoltig_reference::model::{Session, BLOCK_SIZE};
+use sarvoltig_reference::model::{RecordReply, Refusal, Session, BLOCK_SIZE};
+
+/// A refusal without an entry.
+fn refused<T>(number: u8, value: u64) -> Result<T, Refusal> {
+    refused_at(number, value, 0)
+}
+
+/// A refusal for an entry of a page.
+fn refused_at<T>(number: u8, value: u64, entry: u64) -> Result<T, Refusal> {
+    Err(Refusal {
+        number,
+        value,
+        entry,
+    })
+}
+
+/// The record of the row that an entry of a page names.
+fn found([page, entry]: [u32; 2], numbers: &[u64]) -> Result<RecordReply, Refusal> {
+    Ok(RecordReply::Found {
+        page,
+        entry,
+        numbers: numbers.to_vec(),
+    })
+}
 
 /// A session of a file with buffers that just fit, without blocks.
 fn opened(file: &[u8]) -> Session {

@@ -5,14 +5,10 @@ use std::collections::BTreeMap;
 use sarvoltig_reference::model::{Delivered, Refusal, Rows, Session, BLOCK_SIZE};
 use sarvoltig_reference::schedule::{large_run, random_run, Answer, Call, Reply, Run};
 
-use crate::opened;
+use crate::{opened, refused};
 
 /// Results before a call.
 const UNWRITTEN: u32 = 0xeeee_eeee;
-
-fn refused<T>(number: u8, carries: u64) -> Result<T, Refusal> {
-    Err(Refusal { number, carries })
-}
 
 /// Blocks that are filled with one byte each.
 fn filled(bytes: &[u8]) -> Vec<u8> {
@@ -307,7 +303,7 @@ fn generated_runs_have_every_order_of_refusals_of_packets() {
 
 #[test]
 fn large_runs_have_long_packets() {
-    let counts = count_kinds((0..21).map(large_run));
+    let counts = count_kinds((0..42).map(large_run));
     check_counts(&counts, "exact list, more", 1);
     check_counts(&counts, "new", 1000);
 }

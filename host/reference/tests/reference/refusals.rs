@@ -5,7 +5,7 @@ use std::collections::BTreeSet;
 use sarvoltig_reference::damage::{apply, Kind};
 use sarvoltig_reference::generate::{export, Options};
 use sarvoltig_reference::model::{
-    Delivered, Encoding, RecordReply, Rows, Session, TextReply, BLOCK_SIZE,
+    Delivered, Encoding, RecordReply, Refusal, Rows, Session, TextReply, BLOCK_SIZE,
 };
 use sarvoltig_reference::rng::Rng;
 use sarvoltig_reference::schedule::{random_run, Answer, Call, Reply, Run};
@@ -76,11 +76,14 @@ fn every_refusal_is_reached_and_writes_nothing() {
             if let Some(answer) = call.make(&mut run) {
                 check_buffers(&before, run.session(), &call, &answer);
                 check_list(&call, &answer);
-                reached.extend(answer.reply.err().map(|refusal| refusal.number));
+                if let Err(Refusal { number, entry, .. }) = answer.reply {
+                    assert!(entry == 0 || matches!(number, 14 | 15));
+                    reached.insert(number);
+                }
             }
         }
     }
-    assert_eq!(reached, (1..=19).collect());
+    assert_eq!(reached, (1..=19).chain([25]).collect());
 }
 
 #[test]
@@ -106,7 +109,7 @@ fn calls_from_a_list_reach_every_refusal_that_they_have() {
     }
     assert_eq!(
         reached,
-        BTreeSet::from([1, 2, 3, 4, 8, 9, 12, 13, 14, 15, 18, 19])
+        BTreeSet::from([1, 2, 3, 4, 8, 9, 12, 13, 14, 15, 18, 19, 25])
     );
     assert!(found > 1000 && waiting > 1000, "{found}, {waiting}");
 }

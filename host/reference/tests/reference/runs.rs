@@ -6,6 +6,8 @@ use sarvoltig_reference::model::{Delivered, Received, Refusal, Rows, Session, Ta
 use sarvoltig_reference::rng::Rng;
 use sarvoltig_reference::schedule::{random_file, schedule, Answer, Call, Reply, Run};
 
+use crate::refused;
+
 /// The deliveries, packets and questions of a schedule.
 fn run_calls(file: &[u8], rng: &mut Rng) -> Vec<Call> {
     let mut calls = schedule(file, rng);
@@ -75,7 +77,7 @@ fn delivered_by_received(
         Some(_) if piece.len() == BLOCK_SIZE => 7,
         _ => 6,
     };
-    Err(Refusal { number, carries: 0 })
+    refused(number, 0)
 }
 
 /// The held count after a packet, with each block's result written.
@@ -87,7 +89,6 @@ fn packet_by_received(
 ) -> Result<u64, Refusal> {
     let mut after = received.clone();
     after.deliver_packet(blocks, pieces, results.len());
-    let refused = |number, carries| Err(Refusal { number, carries });
     match (blocks.len() * BLOCK_SIZE, blocks.len()) {
         (bytes, _) if bytes != pieces.len() => return refused(6, 0),
         (_, count) if count > results.len() => return refused(17, count as u64),
@@ -242,6 +243,11 @@ struct Earlier {
     faults: HashMap<u32, Refusal>,
 }
 
+/// Whether a refusal is a fault of the file's own.
+fn is_own_fault(number: u8) -> bool {
+    matches!(number, 9..=16 | 25)
+}
+
 impl Earlier {
     fn check(&mut self, call: &Call, answer: &Answer) {
         let (table, found) = match *call {
@@ -263,7 +269,7 @@ impl Earlier {
         if let Some(fault) = self.faults.get(&table) {
             let no_slot = refusal.is_some_and(|refusal| refusal.number == 19);
             assert!(no_slot || refusal == Some(fault));
-        } else if let Some(fault) = refusal.filter(|refusal| (9..=16).contains(&refusal.number)) {
+        } else if let Some(fault) = refusal.filter(|refusal| is_own_fault(refusal.number)) {
             self.faults.insert(table, *fault);
         }
     }

@@ -95,44 +95,47 @@ numbered-requires-13 c κs = search needs
 enum-known-self-4 : tie.Need-enum-known-self-4
 enum-known-self-4 c = search needs
 
-cast-numbered-4 : tie.Need-cast-numbered-4
-cast-numbered-4 c = search needs
-
-numbered-requires-14 : tie.Need-numbered-requires-14
-numbered-requires-14 c κs = search needs
+at-entry-requires : tie.Need-at-entry-requires
+at-entry-requires c κs = search needs
 
 enum-known-self-5 : tie.Need-enum-known-self-5
 enum-known-self-5 c = search needs
 
-cast-numbered-5 : tie.Need-cast-numbered-5
-cast-numbered-5 c = search needs
-
-numbered-requires-15 : tie.Need-numbered-requires-15
-numbered-requires-15 c κs = search needs
+at-entry-requires-2 : tie.Need-at-entry-requires-2
+at-entry-requires-2 c κs = search needs
 
 enum-told-11 : tie.Need-enum-told-11
 enum-told-11 c = search needs
 
-numbered-requires-16 : tie.Need-numbered-requires-16
-numbered-requires-16 c κs = search needs
+numbered-requires-14 : tie.Need-numbered-requires-14
+numbered-requires-14 c κs = search needs
 
 enum-known-self-6 : tie.Need-enum-known-self-6
 enum-known-self-6 c = search needs
 
-numbered-requires-17 : tie.Need-numbered-requires-17
-numbered-requires-17 c κs = search needs
+numbered-requires-15 : tie.Need-numbered-requires-15
+numbered-requires-15 c κs = search needs
 
 enum-told-12 : tie.Need-enum-told-12
 enum-told-12 c = search needs
 
-numbered-requires-18 : tie.Need-numbered-requires-18
-numbered-requires-18 c κs = search needs
+numbered-requires-16 : tie.Need-numbered-requires-16
+numbered-requires-16 c κs = search needs
 
 enum-told-13 : tie.Need-enum-told-13
 enum-told-13 c = search needs
 
-numbered-requires-19 : tie.Need-numbered-requires-19
-numbered-requires-19 c κs = search needs
+numbered-requires-17 : tie.Need-numbered-requires-17
+numbered-requires-17 c κs = search needs
+
+enum-known-self-7 : tie.Need-enum-known-self-7
+enum-known-self-7 c = search needs
+
+cast-numbered-4 : tie.Need-cast-numbered-4
+cast-numbered-4 c = search needs
+
+numbered-requires-18 : tie.Need-numbered-requires-18
+numbered-requires-18 c κs = search needs
 
 returns : tie.Need-returns
 returns c = c .numbered .ensures ∙ sym (ap faultOf (c .before .enum-told .given .1))
@@ -174,22 +177,25 @@ returns-13 : tie.Need-returns-13
 returns-13 c = c .numbered13 .ensures ∙ sym (ap faultOf (c .before .before .self3 .given .1))
 
 returns-14 : tie.Need-returns-14
-returns-14 c = c .numbered14 .ensures ∙ sym (ap faultOf (c .before .before .self4 .given .1))
+returns-14 c = c .at-entry .ensures ∙ sym (ap faultOf (c .before .before .self4 .given .1))
 
 returns-15 : tie.Need-returns-15
-returns-15 c = c .numbered15 .ensures ∙ sym (ap faultOf (c .before .before .self5 .given .1))
+returns-15 c = c .at-entry2 .ensures ∙ sym (ap faultOf (c .before .before .self5 .given .1))
 
 returns-16 : tie.Need-returns-16
-returns-16 c = c .numbered16 .ensures ∙ sym (ap faultOf (c .before .enum-told11 .given .1))
+returns-16 c = c .numbered14 .ensures ∙ sym (ap faultOf (c .before .enum-told11 .given .1))
 
 returns-17 : tie.Need-returns-17
-returns-17 c = c .numbered17 .ensures ∙ sym (ap faultOf (c .before .before .self6 .given .1))
+returns-17 c = c .numbered15 .ensures ∙ sym (ap faultOf (c .before .before .self6 .given .1))
 
 returns-18 : tie.Need-returns-18
-returns-18 c = c .numbered18 .ensures ∙ sym (ap faultOf (c .before .enum-told12 .given .1))
+returns-18 c = c .numbered16 .ensures ∙ sym (ap faultOf (c .before .enum-told12 .given .1))
 
 returns-19 : tie.Need-returns-19
-returns-19 c = c .numbered19 .ensures ∙ sym (ap faultOf (c .before .enum-told13 .given .1))
+returns-19 c = c .numbered17 .ensures ∙ sym (ap faultOf (c .before .enum-told13 .given .1))
+
+returns-20 : tie.Need-returns-20
+returns-20 c = c .numbered18 .ensures ∙ sym (ap faultOf (c .before .before .self7 .given .1))
 
 pub fault-spec : {M : Type 1} → statement M
 fault-spec =
@@ -225,19 +231,20 @@ fault-spec =
     cast-numbered-3
     numbered-requires-13
     enum-known-self-4
-    cast-numbered-4
-    numbered-requires-14
+    at-entry-requires
     enum-known-self-5
-    cast-numbered-5
-    numbered-requires-15
+    at-entry-requires-2
     enum-told-11
-    numbered-requires-16
+    numbered-requires-14
     enum-known-self-6
-    numbered-requires-17
+    numbered-requires-15
     enum-told-12
-    numbered-requires-18
+    numbered-requires-16
     enum-told-13
-    numbered-requires-19
+    numbered-requires-17
+    enum-known-self-7
+    cast-numbered-4
+    numbered-requires-18
     returns
     returns-2
     returns-3
@@ -256,4 +263,5 @@ fault-spec =
     returns-16
     returns-17
     returns-18
-    returns-19)
+    returns-19
+    returns-20)

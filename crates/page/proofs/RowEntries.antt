@@ -3,25 +3,25 @@
 --     unfit-index, counted-index    whether the index is good, by the tests of the code
 --     good-parts                    an index that is good fits and its count agrees
 --     index-good, index-bad         what its field `good` says; good-inside: such an index stands in the page
---     entries-room, starts-read     the entries whose rows are looked at, which stand in the page
+--     entries-room, entries-kept    the entries whose rows are looked at, which stand in the page
 --     rows-short                    rows are at most as many as the page's bytes
 --     before-short                  the part for rows is no longer than the page
 --     places-low, places-high       the places that are written, by where the page starts
 use mathlib.Core.Path.{_≡_}
 use mathlib.Core.Bool.{Bool, true, false, not, _&&_}
-use mathlib.Core.List.{[]}
+use mathlib.Core.List.{List, []}
 use Prim.Native.Nat.{ℕ, _+_, _-_, _%_, _<_, _≤_}
 use native.Mathlib.Omega.{arith}
 use lib.ListN.{length, length-take}
 use lib.Dec.{eqb}
 use borrow.Author.Tests.{le-leb, lt-leb, leb-true, eqb-true, not-true}
-use Rattle.lists.specs.Alias.{Bytes, Places}
+use Rattle.lists.specs.Alias.{Bytes}
 use Rattle.lists.proofs.Choice.{on, cond-holds, both-true}
 use Rattle.format.specs.Size.{heapStart}
 use Rattle.page.specs.declared.RowIndex.{RowIndex}
 use Rattle.page.specs.Header.{rowless, entries, num-rows}
 use Rattle.page.specs.Index.{indexSize, presentFrom}
-use Rattle.page.specs.Read.{indexFits, countAgrees, indexGood, beforeIndex, rowStarts, places, rowPlaces}
+use Rattle.page.specs.Read.{indexFits, countAgrees, indexGood, beforeIndex, rowEntries, entryPlaces, rowPlaces}
 use Rattle.page.specs.Private.{rowIndex, entriesRead}
 use Rattle.page.proofs.EntriesInside.{few-present}
 
@@ -30,7 +30,7 @@ unfolding indexGood
 good-parts page e = both-true (indexFits page) (countAgrees page) e
 
 -- an index that is good fits, so it is no longer than the page
-index-inside : (page : Bytes) → indexGood page ≡ true → indexSize (entries page) ≤ length page
+pub index-inside : (page : Bytes) → indexGood page ≡ true → indexSize (entries page) ≤ length page
 unfolding indexFits
 index-inside page e = omega (arith, leb-true (heapStart + indexSize (entries page)) (length page) (good-parts page e .0))
 
@@ -78,19 +78,19 @@ module _ (page : Bytes) {index : RowIndex} {n : ℕ} (e : index ≡ rowIndex pag
       let Room : ℕ → Type 0 = λ (k : ℕ). indexSize k ≤ length page in
       rw r (cond-holds Room (index .good) (λ f. good-inside page e f) (λ _. none-inside page))
 
-  pub starts-read : rowStarts page ≡ presentFrom page n 0
-  unfolding rowStarts presentFrom
-  starts-read = rw (r, e) (on (rowless page) (λ g. rw g) (λ g. on (indexGood page) (λ f. rw (g, f)) (λ f. rw (g, f))))
+  pub entries-kept : rowEntries page ≡ presentFrom page n 0
+  unfolding rowEntries presentFrom
+  entries-kept = rw (r, e) (on (rowless page) (λ g. rw g) (λ g. on (indexGood page) (λ f. rw (g, f)) (λ f. rw (g, f))))
 
 -- an index has at least a byte for each entry
 index-long : (n : ℕ) → n ≤ indexSize n
 unfolding indexSize
 index-long n = on (eqb (n % 16) 0) (λ e. let z = eqb-true (n % 16) 0 e in rw e (omega arith)) (λ e. rw e (omega arith))
 
-pub rows-short : (page : Bytes) → length (rowStarts page) ≤ length page
-unfolding rowStarts
+pub rows-short : (page : Bytes) → length (rowEntries page) ≤ length page
+unfolding rowEntries
 rows-short page =
-    let Short : Places → Type 0 = λ (l : Places). length l ≤ length page in
+    let Short : List ℕ → Type 0 = λ (l : List ℕ). length l ≤ length page in
     cond-holds Short (rowless page) (λ _. omega arith)
     (λ _. cond-holds Short (indexGood page) (λ f. omega (arith, few-present page (entries page) 0, index-inside page f, index-long (entries page))) (λ _. omega arith))
 
@@ -99,7 +99,7 @@ unfolding beforeIndex
 before-short page = omega (arith, length-take (length page - indexSize (entries page)) page)
 
 module _ (page : Bytes) (start : ℕ) where
-  pub places-low : start + heapStart + 0xffff ≤ 0xffff_ffff → rowPlaces start page ≡ places start (rowStarts page)
+  pub places-low : start + heapStart + 0xffff ≤ 0xffff_ffff → rowPlaces start page ≡ entryPlaces start page (rowEntries page)
   unfolding rowPlaces
   places-low h = rw (le-leb (start + heapStart + 0xffff) 0xffff_ffff h)
 
