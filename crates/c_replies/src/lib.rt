@@ -14,8 +14,8 @@ ghost use Rattle.c_reply.specs.Reply.{reply, replyTo, Replied};
 ghost use Rattle.c_replies.specs.Replies.{openReply, deliverReply, packetReply, waitReply, walkReply, recordReply, encodingNumber, textReply};
 use c_reply::Code;
 use chain::Walked;
+use export::RecordOn;
 use export::RecordReply;
-use export::RowRecord;
 use export::TextReply;
 use intake::Delivered;
 use intake::Opened;
@@ -164,7 +164,7 @@ fn put_record(record: Record, result: &mut [u64]) -> u32
 }
 
 // The reply with a record: page and entry of its row, and behind them its numbers.
-fn put_row(found: RowRecord, result: &mut [u64]) -> u32
+fn put_row(found: RecordOn, result: &mut [u64]) -> u32
     ensures { λ r. ⌜ Replied (reply done (found .page ∷ found .«entry» ∷ recordOf (found .«record») .numbers)) r
         (now (result .entry)) (now (result .exit)) ⌝ }
 {

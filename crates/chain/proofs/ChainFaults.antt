@@ -66,24 +66,28 @@ module _ (pages : Pages) (first : ℕ) where
   pub chain-fault : (f : Fault) → walkFrom pages first ≡ refused f → ChainFault pages first f
   chain-fault f e = subst FaultBy e from-fault
 
--- its number and what it carries: 0, or a page of the file
+-- its number and what it carries: 0, or a page of the file; an entry with 14 and 15 alone
 pub record Numbered (count : ℕ) (f : Fault) : Type 0 where
   pub range : ((11 ≤ f .number) × (f .number ≤ 16)) ⊎ (f .number ≡ 25)
   pub carries : (f .value ≡ 0) ⊎ (linkable count (f .value) ≡ true)
-  pub loopCarries : f .number ≡ 16 → f .value ≡ 0
+  pub loopCarries : f .number ≡ 16 → (f .value ≡ 0) × (f .entry ≡ 0)
+  pub entryCarried : (f .entry ≡ 0) ⊎ (14 ≤ f .number) × (f .number ≤ 15)
 
 -- where a page's faults are 12 to 15 and 25 and carry the page
 pub fault-numbered : (pages : Pages) (first : ℕ)
     → ((page : ℕ) (f : Fault) → pages .read page ≡ refused f → PageFault page f)
     → (f : Fault) → ChainFault pages first f → Numbered (pages .pageCount) f
-fault-numbered pages first reads f (firstOutside o) = record { range = inl (omega arith, omega arith); carries = inl refl; loopCarries = λ e. refl }
+fault-numbered pages first reads f (firstOutside o) =
+    record { range = inl (omega arith, omega arith); carries = inl refl; loopCarries = λ e. (refl, refl); entryCarried = inl refl }
 fault-numbered pages first reads f (nextOutside page i h o) =
-    record { range = inl (omega arith, omega arith); carries = inr i; loopCarries = λ e. absurd (omega arith) }
+    record { range = inl (omega arith, omega arith); carries = inr i; loopCarries = λ e. absurd (omega arith); entryCarried = inl refl }
 fault-numbered pages first reads f (pageFault page i h e) =
     let r = reads page f e in
     record {
       range = ⊎-elim (λ k. inl (omega (arith, k .0), omega (arith, k .1))) (λ k. inr k) (r .0);
       carries = inr (rw (r .1) i);
       loopCarries = λ l. absurd (⊎-elim (λ k. omega (arith, k .1)) (λ k. omega arith) (r .0));
+      entryCarried = r .2;
     }
-fault-numbered pages first reads f loop = record { range = inl (omega arith, omega arith); carries = inl refl; loopCarries = λ e. refl }
+fault-numbered pages first reads f loop =
+    record { range = inl (omega arith, omega arith); carries = inl refl; loopCarries = λ e. (refl, refl); entryCarried = inl refl }

@@ -1,7 +1,7 @@
 -- The chain of an allowed file (rule 1.6): all its pages lie in the image, and the image is at most 268,435,456 bytes long.
 --     part-length, places-fit     a page's part has len_page bytes, and its places fit 32 bits
 --     Placed, chain-placed        the rows on the pages that a walk counts are those that it found, and the places written are theirs
---     file-faults                 the walk's refusals are 11 to 16 and 25, and what they carry is 0 or a page of the file
+--     file-faults                 the walk's refusals are 11 to 16 and 25, and what they carry
 -- Rules 4.2, 4.10 and 4.17.
 use mathlib.Core.Path.{_≡_, refl, sym, ap, _∙_}
 use mathlib.Core.Bool.{true}

@@ -5,7 +5,7 @@
 --     EndsAtLast, ChainFaults          where a walk ends, Full or refused
 --     SameWalk, WalkGrows, FileAgree   the same pages give the same walk, more pages a longer one; the bytes it depends on
 --     HeldLoop, WalkLoop, FillLoop, RowLoop     the loops of the code, by their invariants
---     ChainPlaces                      in an allowed file, the places written are the rows found
+--     ChainPlaces                      in an allowed file, the places written are those of the rows found
 pub mod Linkable
 pub mod WalkStep
 pub mod FuelEnough

@@ -2,7 +2,7 @@
 use mathlib.Core.Path.{_≡_, refl, ap, sym, _∙_}
 use Prim.Native.Nat.{ℕ, _≤_}
 use native.Mathlib.Omega.{arith}
-use lib.ListN.{length, length-map}
+use lib.ListN.{length}
 use Rattle.lists.specs.Alias.{Bytes}
 use Rattle.refusal.specs.declared.Refusal.{Refusal}
 use Rattle.refusal.specs.Fault.{faultOf}
@@ -10,13 +10,12 @@ use Rattle.refusal.specs.Answer.{Answer, given, refused}
 use Rattle.table.specs.declared.Table.{Table}
 use Rattle.page.specs.declared.PageRead.{PageRead}
 use Rattle.page.specs.declared.PageRead.the-variants.{Counted, Refused}
-use Rattle.page.specs.Found.{rowOf}
-use Rattle.page.specs.Read.{rowEntries, readPage, rowCount, pageReadOf}
+use Rattle.page.specs.Read.{readPage, rowCount, pageReadOf}
 use Rattle.page.specs.Found.{Rows}
 use Rattle.chain.specs.File.{pagePart}
 use Rattle.lists.proofs.Choice.{never}
 use Rattle.page.proofs.RowEntries.{rows-short}
-use Rattle.page.proofs.PageAnswer.{page-read}
+use Rattle.page.proofs.PageAnswer.{page-many}
 use Rattle.chain.proofs.PagePart.{part-short}
 
 module _ {page : Bytes} (size : ℕ) (image : Bytes) (number : ℕ) (table : Table) (p : page ≡ pagePart size image number) {r : PageRead}
@@ -31,8 +30,7 @@ count-short : (number : ℕ) (table : Table) (page : Bytes) (a : Answer Rows) �
     → found ≤ length page
 count-short number table page (given rows) e found k =
     let n : found ≡ length rows = cc in
-    let m = ap length (page-read number table page rows e .found) ∙ length-map (rowEntries page) (rowOf number page) in
-    omega (arith, rows-short page)
+    omega (arith, page-many number table page rows e, rows-short page)
 count-short number table page (refused f) e found k = never (cc)
 
 pub found-low : (size : ℕ) (image : Bytes) (number : ℕ) (table : Table) (found : ℕ)

@@ -34,19 +34,19 @@ pub record LinkedChain (d : Directory) (c : Chain) : Type 0 where
 
 abbrev pub ChainAnswer : Directory → Answer Chain → Type 0
 ChainAnswer d (given c) = LinkedChain d c
-ChainAnswer d (refused f) = (10 ≤ f .number) × (f .number ≤ 11) × (f .value ≡ 0)
+ChainAnswer d (refused f) = (10 ≤ f .number) × (f .number ≤ 11) × (f .value ≡ 0) × (f .entry ≡ 0)
 
 linked-answer : (d : Directory) (p : Pointer) → ChainAnswer d (linkedChain d p)
 linked-answer d p =
     let first = linkable (d .«page_count») (p .«first_page») in
     let last = linkable (d .«page_count») (p .«last_page») in
-    cond-holds (ChainAnswer d) (not first) (λ _. (omega arith, omega arith, refl))
-    (λ f. cond-holds (ChainAnswer d) (not last) (λ _. (omega arith, omega arith, refl))
+    cond-holds (ChainAnswer d) (not first) (λ _. (omega arith, omega arith, refl, refl))
+    (λ f. cond-holds (ChainAnswer d) (not last) (λ _. (omega arith, omega arith, refl, refl))
     (λ l. record { len-page = refl; page-count = refl; first = not-false first f; last = not-false last l }))
 
 among-answer : (d : Directory) (t : ℕ) (ps : List Pointer) → ChainAnswer d (andThen (pointerAmong t ps) (linkedChain d))
 unfolding pointerAmong
-among-answer d t [] = (omega arith, omega arith, refl)
+among-answer d t [] = (omega arith, omega arith, refl, refl)
 among-answer d t (p ∷ ps) =
     cond-holds (λ (a : Answer Pointer). ChainAnswer d (andThen a (linkedChain d))) (eqb (p .«table_type») t) (λ _. linked-answer d p) (λ _. among-answer d t ps)
 
@@ -61,21 +61,21 @@ pub record FileChain (len : ℕ) (block : Bytes) (c : Chain) : Type 0 where
 
 abbrev FileAnswer : (len : ℕ) (block : Bytes) (chain : Answer Chain) → Type 0
 FileAnswer len block (given c) = FileChain len block c
-FileAnswer len block (refused f) = (9 ≤ f .number) × (f .number ≤ 11) × (f .value ≡ 0)
+FileAnswer len block (refused f) = (9 ≤ f .number) × (f .number ≤ 11) × (f .value ≡ 0) × (f .entry ≡ 0)
 
 file-answer : (len : ℕ) (block : Bytes) (table : Table) → FileAnswer len block (tableChain len block table)
 unfolding tableChain
 file-answer len block table =
-    cond-holds (FileAnswer len block) (not (headerHolds len block)) (λ _. (omega arith, omega arith, refl))
+    cond-holds (FileAnswer len block) (not (headerHolds len block)) (λ _. (omega arith, omega arith, refl, refl))
     (λ h. by (not-false (headerHolds len block) h) (chainIn (fileDirectory len block) table) (chain-answer (fileDirectory len block) table))
   where
     by : headerHolds len block ≡ true → (a : Answer Chain) → ChainAnswer (fileDirectory len block) a → FileAnswer len block a
     by h (given c) l = record { header = h; linked = l }
-    by h (refused f) r = (omega arith, omega arith, r .2)
+    by h (refused f) r = (omega arith, omega arith, r .2, r .3)
 
 pub chain-given : (len : ℕ) (block : Bytes) (table : Table) (c : Chain) → tableChain len block table ≡ given c → FileChain len block c
 chain-given len block table c e = subst (FileAnswer len block) e (file-answer len block table)
 
 pub chain-refused : (len : ℕ) (block : Bytes) (table : Table) (f : Fault) → tableChain len block table ≡ refused f
-    → (9 ≤ f .number) × (f .number ≤ 11) × (f .value ≡ 0)
+    → (9 ≤ f .number) × (f .number ≤ 11) × (f .value ≡ 0) × (f .entry ≡ 0)
 chain-refused len block table f e = subst (FileAnswer len block) e (file-answer len block table)

@@ -3,7 +3,7 @@ use mathlib.Core.Path.{_≡_}
 use mathlib.Core.Bool.{true, false}
 use mathlib.Core.List.{List, [], _∷_}
 use mathlib.Core.Logic.{_⊎_}
-use Prim.Native.Nat.{ℕ, suc, _<_}
+use Prim.Native.Nat.{ℕ, suc, _<_, _≤_}
 use lib.ListN.{length, getD, drop}
 use lib.Seq.{sets}
 use Rattle.lists.specs.Alias.{Bytes}
@@ -94,6 +94,8 @@ pub record EveryEntry (number : ℕ) (table : Table) (page : Bytes) : Type 0 whe
   pub rows : (found : Rows) → readPage number table page ≡ given found → (k : ℕ) → k < length found → RowOf number page (getD found k noRow)
   pub grow : (found : Rows) → readPage number table page ≡ given found → (k : ℕ) → suc k < length found
       → getD found k noRow .entry < getD found (suc k) noRow .entry
+  -- each fault carries the page, and each but 14 and 15 entry 0
+  pub carried : (f : Fault) → readPage number table page ≡ refused f → (f .value ≡ number) × ((f .entry ≡ 0) ⊎ (14 ≤ f .number) × (f .number ≤ 15))
   -- 14 and 15 carry a present entry, and its row is not good
   pub faults : (f : Fault) → readPage number table page ≡ refused f → (f .number ≡ 14) ⊎ (f .number ≡ 15)
       → (f .entry < entries page) × (present page (f .entry) ≡ true) × (checkRow table (drop (rowStart page (f .entry)) (beforeIndex page)) ≡ given tt → ⊥)

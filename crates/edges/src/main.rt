@@ -46,12 +46,17 @@ fn set_header(page: &mut [u8], counts: u32) {
     put_counts(page, counts);
 }
 
-fn say_page(page: &mut [u8], counts: u32) {
-    set_header(page, counts);
-    match page::read(page, 1, Table::Genres) {
+// What reading the page answers, as a page of this number and table.
+fn say_read(page: &[u8], number: u32, table: Table) {
+    match page::read(page, number, table) {
         PageRead::Counted(rows) => say(b"rows ", rows as u64),
         PageRead::Refused(refusal) => say_refused(refusal),
     }
+}
+
+fn say_page(page: &mut [u8], counts: u32) {
+    set_header(page, counts);
+    say_read(page, 1, Table::Genres);
 }
 
 fn put_flags(page: &mut [u8], low: usize, high: usize) {
@@ -126,17 +131,20 @@ fn bad_names(page: &mut [u8]) {
     say_page(page, 0x2_0011);
 }
 
-// The name is malformed: writes the number of the refusal, and its entry.
-fn say_entry(page: &mut [u8], counts: u32) {
-    set_header(page, counts);
+// The entry that the refusal of the page carries, 0 where it is read.
+fn fault_entry(page: &[u8]) -> u64 {
     match page::read(page, 1, Table::Genres) {
-        PageRead::Counted(rows) => say(b"rows ", rows as u64),
+        PageRead::Counted(_) => 0,
         PageRead::Refused(refusal) => {
             let fault = refusal.fault();
-            say(b"refused ", fault.number as u64);
-            say(b"entry ", fault.entry as u64);
+            fault.entry as u64
         }
     }
+}
+
+fn say_entry(page: &mut [u8], counts: u32) {
+    say_page(page, counts);
+    say(b"entry ", fault_entry(page));
 }
 
 // Malformed names where entry 1 of two is present, and entry 16 of 17.
@@ -150,18 +158,11 @@ fn late_entries(page: &mut [u8]) {
     say_entry(page, 0x2011);
 }
 
-fn say_header(page: &[u8], number: u32, table: Table) {
-    match page::read(page, number, table) {
-        PageRead::Counted(rows) => say(b"rows ", rows as u64),
-        PageRead::Refused(refusal) => say_refused(refusal),
-    }
-}
-
 // Page 1 of a table of genres, read as another page, for another table, and as both.
 fn headers(page: &[u8]) {
-    say_header(page, 2, Table::Genres);
-    say_header(page, 1, Table::Artists);
-    say_header(page, 2, Table::Artists);
+    say_read(page, 2, Table::Genres);
+    say_read(page, 1, Table::Artists);
+    say_read(page, 2, Table::Artists);
 }
 
 fn names() {

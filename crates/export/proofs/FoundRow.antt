@@ -7,8 +7,7 @@ use mathlib.Core.Path.{_≡_, ap, _∙_}
 use mathlib.Core.Bool.{true}
 use mathlib.Core.Option.{none}
 use Prim.Native.Nat.{ℕ, _<_}
-use native.Mathlib.Omega.{arith}
-use lib.ListN.{length, drop, getD, length-map}
+use lib.ListN.{length, drop, getD}
 use Rattle.lists.specs.Alias.{Bytes}
 use Rattle.refusal.specs.Answer.{given, faultIn}
 use Rattle.table.specs.declared.Table.{Table}
@@ -17,8 +16,8 @@ use Rattle.row.specs.Check.{checkRow}
 use Rattle.row.specs.Slot.{slotText}
 use Rattle.page.specs.Header.{headerAgrees}
 use Rattle.page.specs.declared.Row.{Row}
-use Rattle.page.specs.Found.{Rows, rowOf, noRow}
-use Rattle.page.specs.Read.{beforeIndex, rowEntries, pageRows, readPage}
+use Rattle.page.specs.Found.{Rows, noRow}
+use Rattle.page.specs.Read.{beforeIndex, pageRows, readPage}
 use Rattle.intake.specs.Private.{Sound}
 use Rattle.intake.specs.Memory.{Memory, blockAt}
 use Rattle.directory.specs.Header.{len-page}
@@ -27,9 +26,8 @@ use Rattle.table_walk.specs.Walk.{pageSize, tableWalk}
 use Rattle.table_walk.specs.Reads.{tableReads}
 use Rattle.export.specs.Row.{rowPart}
 use Rattle.lists.proofs.Each.{Each, each-at, each-every}
-use Rattle.lists.proofs.Nth.{map-at}
 use Rattle.row.proofs.GoodRow.{good-text}
-use Rattle.page.proofs.PageAnswer.{GoodPage, page-read, rows-good}
+use Rattle.page.proofs.PageAnswer.{GoodPage, page-read, page-row, rows-good}
 use Rattle.directory.proofs.ChainAnswer.{chain-given}
 use Rattle.table_walk.proofs.SameBlocks.{MoreBlocks, first-same, part-same}
 use Rattle.table_walk.proofs.TableWalk.{table-walk-holds}
@@ -62,8 +60,8 @@ module _ (len : ℕ) (m : Memory) (table : Table) where
 
       one : (k : ℕ) → k < length all → FoundRow len m table (getD all k noRow)
       one k h =
-          let below : k < length (rowEntries page) = omega (arith, length-map (rowEntries page) (rowOf number page)) in
-          let on = ap (λ (row : Row). row .page) (map-at (rowOf number page) 0 noRow (rowEntries page) k below) in
+          let found = rw (read .found) at (page-row number table page rows e k) in
+          let on = ap (λ (row : Row). row .page) (found h) in
           let good = each-at (λ (row : Row). checkRow table (drop (row .start) (beforeIndex page)) ≡ given tt) all k noRow (rows-good table (beforeIndex page) all (read .good)) h in
           record {
             walked = rw on w;

@@ -1,6 +1,6 @@
 -- The row that an element of a list names (specs/FromList).
 --     ListedRow, listed-found, found-listed    what is known of a row that is found so, and the other way round
---     listed-page, listed-walked               its page is that of the place, and is held
+--     listed-page, listed-place, listed-walked     it is on the page of the element's place and starts there, and the page is held
 --     then-listed                              answers that agree wherever it is found
 --     rows-ranked                              each row that the walk for a table finds is the row of its rank on its page
 --     row-listed                               so a list that begins with the rows found names them
@@ -8,6 +8,7 @@
 use mathlib.Core.Path.{_≡_, refl, sym, ap, _∙_}
 use mathlib.Core.Bool.{true, false}
 use Prim.Native.Nat.{ℕ, _/_, _%_, _<_, _≤_}
+use native.Mathlib.Nat.{div-add-mod'}
 use native.Mathlib.Omega.{arith}
 use lib.ListN.{length, getD}
 use lib.Dec.{leb}
@@ -18,7 +19,7 @@ use Rattle.format.specs.Place.{linkable}
 use Rattle.refusal.specs.Answer.{Answer, given, refused, andThen}
 use Rattle.table.specs.declared.Table.{Table}
 use Rattle.page.specs.declared.Row.{Row}
-use Rattle.page.specs.Found.{Rows, places, noRow}
+use Rattle.page.specs.Found.{Rows, placeOf, places, noRow}
 use Rattle.page.proofs.OneRowAnswer.{row-read, read-row-good, start-good, row-here}
 use Rattle.bitmap.specs.Bit.{bit}
 use Rattle.intake.specs.Private.{Sound}
@@ -99,6 +100,15 @@ module _ (len : ℕ) (m : Memory) (table : Table) (list : Places) (i : ℕ) wher
   listed-page {row} r =
       let page = pagePart size (m .image) number in
       ap (λ (own : Row). own .page) (row-read number table page (getD list i 0 % size) (rank size list i) row (r .read) .found)
+
+  -- and the row starts at that place
+  pub listed-place : {row : Row} → ListedRow len m table list i row → placeOf size row ≡ getD list i 0
+  listed-place {row} r =
+      let page = pagePart size (m .image) number in
+      let start = getD list i 0 % size in
+      let read = row-read number table page start (rank size list i) row (r .read) in
+      let begins : row .start ≡ start = ap (λ (own : Row). own .start) (read .found) ∙ row-here page start (rank size list i) (read .here) .1 in
+      rw (listed-page r, begins) (div-add-mod' (getD list i 0) size)
 
   pub listed-walked : {row : Row} → ListedRow len m table list i row → PageWalked len m (row .page)
   listed-walked r = rw (listed-page r) (r .page)

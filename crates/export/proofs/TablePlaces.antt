@@ -1,4 +1,4 @@
--- In a file whose call is not refused by 1 to 4, the places on a table's chain are the rows that its walk found: rule 4.10.
+-- In a file whose call is not refused by 1 to 4, the rows on a table's chain are those that its walk found, and the places written are theirs: rule 4.10.
 --     table-placed     over the directory that the walk went by
 --     table-rows       so the list that they are written to is that of `settleRows`
 --     table-row        and row k is found where it is counted; its directory's page length is block 0's

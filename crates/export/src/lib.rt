@@ -38,7 +38,7 @@ enum RowReply {
 }
 
 // A record, with the page and the index entry of its row.
-pub struct RowRecord {
+pub struct RecordOn {
     pub page: u32,
     pub entry: u16,
     pub record: Record,
@@ -46,7 +46,7 @@ pub struct RowRecord {
 
 // What a question for a record answers.
 pub enum RecordReply {
-    Found(RowRecord),
+    Found(RecordOn),
     Waiting { page: u32, rows: usize, pages: u64 },
     Refused(Refusal),
 }
@@ -115,11 +115,11 @@ fn row_part(size: u32, image: &[u8], row: Row) -> &[u8]
     ensures { λ r. ⌜ now r ≡ rowPart size (now (image .entry)) row ⌝ }
 {
     let start = row.start as usize;
-    let rows = page::before_index(chain::part(image, row.page, size));
-    if rows.len() < start {
-        return &rows[0..0];
+    let before = page::before_index(chain::part(image, row.page, size));
+    if before.len() < start {
+        return &before[0..0];
     }
-    &rows[start..]
+    &before[start..]
 }
 
 // Row k on the first pages of a table's chain, which a walk has counted.
@@ -213,7 +213,7 @@ fn record_from(table: Table, image: &[u8], found: RowReply) -> RecordReply
     ensures { λ r. ⌜ recordReplyOf r ≡ thenFound (rowReplyOf found) (recordIn table (now (image .entry))) ⌝ }
 {
     match found {
-        RowReply::Found { row, size } => RecordReply::Found(RowRecord {
+        RowReply::Found { row, size } => RecordReply::Found(RecordOn {
             page: row.page,
             entry: row.entry,
             record: row::read_record(table, row_part(size, image, row)),

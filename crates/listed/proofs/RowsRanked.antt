@@ -7,11 +7,10 @@ use mathlib.Core.Bool.{true}
 use mathlib.Core.List.{[]}
 use Prim.Native.Nat.{ℕ, _/_, _%_, _<_}
 use native.Mathlib.Omega.{arith}
-use lib.ListN.{length, drop, getD, length-drop, length-map}
+use lib.ListN.{length, drop, getD, length-drop}
 use borrow.Author.Tests.{lt-ltb, eq-eqb}
 use Rattle.lists.specs.Alias.{Bytes, Words}
 use Rattle.lists.proofs.Each.{Each, each-at, each-every, each-of}
-use Rattle.lists.proofs.Nth.{map-at}
 use Rattle.format.specs.Place.{linkable}
 use Rattle.refusal.specs.Answer.{Answer, given, refused}
 use Rattle.table.specs.declared.Table.{Table}
@@ -19,11 +18,11 @@ use Rattle.row.specs.Check.{checkRow}
 use Rattle.row.proofs.GoodRow.{good-some}
 use Rattle.page.specs.declared.Row.{Row}
 use Rattle.page.specs.Index.{rowStart}
-use Rattle.page.specs.Found.{Rows, rowOf, placeOf, places, noRow}
+use Rattle.page.specs.Found.{Rows, placeOf, places, noRow}
 use Rattle.page.specs.Read.{beforeIndex, rowEntries, pageRows, readPage}
 use Rattle.page.specs.OneRow.{rowRanked, isRow}
 use Rattle.page.proofs.RowEntries.{before-short}
-use Rattle.page.proofs.PageAnswer.{GoodPage, page-read, rows-good}
+use Rattle.page.proofs.PageAnswer.{GoodPage, page-read, page-many, page-row, rows-good}
 use Rattle.directory.specs.declared.Chain.{Chain}
 use Rattle.chain.specs.Walk.{Pages, Walk, full, waiting, walkFrom}
 use Rattle.chain.specs.Along.{rowsAlong}
@@ -47,15 +46,12 @@ module _ (size number : ℕ) (table : Table) (page : Bytes) (long : length page 
       (λ row g. omega (arith, good-some table (drop (row .start) (beforeIndex page)) g, length-drop (row .start) (beforeIndex page), before-short page, long))
       (rows-good table (beforeIndex page) (pageRows number page) (good .good)))
 
-  row-count : length rows ≡ length (rowEntries page)
-  row-count = ap length (good .found) ∙ length-map (rowEntries page) (rowOf number page)
-
   module _ (k : ℕ) (h : k < length rows) where
     below : k < length (rowEntries page)
-    below = omega (arith, row-count)
+    below = omega (arith, page-many number table page rows e)
 
     pub row-is : getD rows k noRow ≡ rowRanked number page k
-    row-is = ap (λ (l : Rows). getD l k noRow) (good .found) ∙ map-at (rowOf number page) 0 noRow (rowEntries page) k below
+    row-is = page-row number table page rows e k h
 
     start : ℕ
     start = rowStart page (getD (rowEntries page) k 0)

@@ -15,6 +15,7 @@ fn say_refused(refusal: Refusal) {
     let fault = refusal.fault();
     say(b"refused ", fault.number as u64);
     say(b"carries ", fault.value);
+    say(b"entry ", fault.entry as u64);
 }
 
 fn say_result(result: u32) {

@@ -4,7 +4,7 @@
 --     start-good       a page with a row of some rank has rows, and its index is good
 --     row-here         the row of the rank starts there
 --     rank-most        ranks from the page's length on are all alike
-use mathlib.Core.Path.{_≡_, refl}
+use mathlib.Core.Path.{_≡_, refl, sym}
 use mathlib.Core.Bool.{true, false, false≢true}
 use Prim.Native.Nat.{ℕ, _<_, _≤_, min}
 use native.Mathlib.Nat.{min-eq-left, min-eq-right}
@@ -14,16 +14,17 @@ use lib.Dec.{eqb, leb, ltb, leb·suc-zero}
 use borrow.Author.Tests.{le-ltb, leb-true, leb-false, ltb-true, eqb-true}
 use Rattle.lists.specs.Alias.{Bytes}
 use Rattle.lists.proofs.Choice.{on, never, both-true}
-use Rattle.refusal.specs.Answer.{Answer, given, refused, andThen}
+use Rattle.refusal.specs.Answer.{Answer, given, refused}
 use Rattle.table.specs.declared.Table.{Table}
 use Rattle.row.specs.Check.{checkRow}
 use Rattle.page.specs.declared.Row.{Row}
 use Rattle.page.specs.Header.{numberAgrees, typeAgrees, headerAgrees, rowless}
 use Rattle.page.specs.Index.{rowStart}
-use Rattle.page.specs.Read.{indexGood, beforeIndex, rowEntries, checkFound}
+use Rattle.page.specs.Read.{indexGood, beforeIndex, rowEntries, checkFound, judged}
 use Rattle.page.specs.OneRow.{rowRanked, isRow, readRow}
 use Rattle.page.proofs.RowEntries.{rows-short}
-use Rattle.page.proofs.PageAnswer.{found-good}
+use Rattle.page.proofs.PageAnswer.{good-check, found-good}
+use Rattle.page.proofs.PageTests.{by-tests}
 
 pub record ReadRow (number : ℕ) (table : Table) (page : Bytes) (start rank : ℕ) (row : Row) : Type 0 where
   pub header : headerAgrees number table page ≡ true
@@ -41,34 +42,24 @@ row-here page start rank e =
     let both = both-true (ltb rank (length (rowEntries page))) (eqb at start) e in
     (ltb-true rank (length (rowEntries page)) (both .0), eqb-true at start (both .1))
 
--- a row that was judged without a fault
-judged-good : (row other : Row) (check : Answer (Unit {0})) → andThen check (λ _. given row) ≡ given other → (check ≡ given tt) × (other ≡ row)
-judged-good row other (given tt) e = (refl, cc)
-judged-good row other (refused f) e = never (cc)
-
 module _ (number : ℕ) (table : Table) (page : Bytes) (start rank : ℕ) (row : Row) where
-  judged-row : isRow page start rank ≡ true → andThen (checkFound table (beforeIndex page) (rowRanked number page rank)) (λ _. given (rowRanked number page rank)) ≡ given row
+  judged-row : isRow page start rank ≡ true → judged table (beforeIndex page) (rowRanked number page rank) ≡ given row
       → (checkRow table (drop start (beforeIndex page)) ≡ given tt) × (row ≡ rowRanked number page rank)
   judged-row w e =
       let own = rowRanked number page rank in
-      let both = judged-good own row (checkFound table (beforeIndex page) own) e in
+      let both = good-check own row (checkFound table (beforeIndex page) own) (sym e) in
       let at : own .start ≡ start = row-here page start rank w .1 in
       (rw at at (found-good own (checkRow table (drop (own .start) (beforeIndex page))) (both .0)), both .1)
 
   pub row-read : readRow number table page start rank ≡ given row → ReadRow number table page start rank row
   unfolding readRow
   row-read e =
-      on (numberAgrees number page)
-      (λ h. on (typeAgrees table page)
-      (λ t. on (rowless page) (λ r. never (cc (rw (h, t, r) at e)))
-      (λ r. on (indexGood page)
-      (λ f. on (isRow page start rank)
+      by-tests number table page (λ h. never (cc (rw h at e))) (λ h t. never (cc (rw (h, t) at e))) (λ h t r. never (cc (rw (h, t, r) at e)))
+      (λ h t r f. never (cc (rw (h, t, r, f) at e)))
+      (λ h t r f. on (isRow page start rank)
       (λ w. let own = judged-row w (rw (h, t, r, f, w) at e) in
       record { header = rw (h, t); rows = r; index = f; here = w; found = own .1; good = own .0 })
       (λ w. never (cc (rw (h, t, r, f, w) at e))))
-      (λ f. never (cc (rw (h, t, r, f) at e)))))
-      (λ t. never (cc (rw (h, t) at e))))
-      (λ h. never (cc (rw h at e)))
 
   pub read-row-good : ReadRow number table page start rank row → readRow number table page start rank ≡ given row
   unfolding readRow

@@ -93,11 +93,11 @@ row-byte table rows start i e = on (ltb i (length (drop start rows))) here (λ f
         rw (le-leb start (start + i) (omega arith), lt-ltb (start + i) (length rows) inside, back) (rw f at e)
 
 -- the parts of a row, from its start to the row index, agree on its bytes
-abbrev pub RowAgree : (table : Table) (rows other : Bytes) (start : ℕ) → Type 0
-RowAgree table rows other start = Agree (rowByte table (drop start rows)) (drop start rows) (drop start other)
+abbrev pub RowAgree : (table : Table) (before other : Bytes) (start : ℕ) → Type 0
+RowAgree table before other start = Agree (rowByte table (drop start before)) (drop start before) (drop start other)
 
-abbrev pub FoundAgree : (table : Table) (rows other : Bytes) (row : Row) → Type 0
-FoundAgree table rows other row = RowAgree table rows other (row .start)
+abbrev pub FoundAgree : (table : Table) (before other : Bytes) (row : Row) → Type 0
+FoundAgree table before other row = RowAgree table before other (row .start)
 
 -- one entry: its flag and its row's start
 module _ {s t : Bytes} (j : ℕ) (a : Agree (within (flagsAt s j) 2) s t) where

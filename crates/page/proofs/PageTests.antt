@@ -1,5 +1,5 @@
 -- Rule 4.15: the tests of a page, and what they leave.
---     number-rung to good-rung           which test answers, by the tests of the code
+--     number-rung to good-rung           which test answers, by the tests of the code; by-tests: a case for each
 --     index-told, entries-inside         what they tell of the index that they leave
 --     counted-rows, no-rows, rows-refused     what reading the page answers then
 --     ranked-row, no-row, row-refused         and what reading one row does
@@ -28,9 +28,9 @@ use Rattle.page.specs.declared.PageTested.the-variants.{Index, Rowless, 
 use Rattle.page.specs.Header.{numberAgrees, typeAgrees, rowless, entries}
 use Rattle.page.specs.Index.{indexSize, rowStart, presentFrom}
 use Rattle.page.specs.Found.{Rows, rowOf, noRow}
-use Rattle.page.specs.Read.{indexGood, beforeIndex, rowEntries, checkRows, pageTests, readPage, rowCount}
+use Rattle.page.specs.Read.{indexGood, beforeIndex, rowEntries, judged, checkRows, pageTests, readPage, rowCount}
 use Rattle.page.specs.OneRow.{isRow, readRow}
-use Rattle.page.specs.Private.{rowIndex, testedIndex, testedOf, checkedCount, judged, judgedAt}
+use Rattle.page.specs.Private.{rowIndex, testedIndex, testedOf, rowsFrom, checkedCount, judgedAt}
 use Rattle.page.proofs.RowEntries.{index-inside, index-good, index-bad}
 
 module _ (number : ℕ) (table : Table) (page : Bytes) where
@@ -51,24 +51,29 @@ module _ (number : ℕ) (table : Table) (page : Bytes) where
       pub good-rung : index .good ≡ true → given (some index) ≡ testedIndex number table page
       good-rung f = let good = index-good page e f in rw (e, h, t, good .0, good .1)
 
+  -- a case for each test that answers
+  pub by-tests : {B : Type 0} → (numberAgrees number page ≡ false → B)
+      → (numberAgrees number page ≡ true → typeAgrees table page ≡ false → B)
+      → (numberAgrees number page ≡ true → typeAgrees table page ≡ true → rowless page ≡ true → B)
+      → (numberAgrees number page ≡ true → typeAgrees table page ≡ true → rowless page ≡ false → indexGood page ≡ false → B)
+      → (numberAgrees number page ≡ true → typeAgrees table page ≡ true → rowless page ≡ false → indexGood page ≡ true → B) → B
+  by-tests n t r b g =
+      on (numberAgrees number page)
+      (λ h. on (typeAgrees table page)
+      (λ k. on (rowless page) (r h k) (λ e. on (indexGood page) (g h k e) (b h k e)))
+      (t h))
+      n
+
   module _ {A : Type 0} (x y : Answer A) where
     tested-refused : {f : Fault} → refused f ≡ testedIndex number table page → refused f ≡ pageTests number table page x y
     tested-refused e =
-        on (numberAgrees number page)
-        (λ h. on (typeAgrees table page)
-        (λ t. on (rowless page) (λ r. never (cc (rw (h, t, r) at e)))
-        (λ r. on (indexGood page) (λ g. never (cc (rw (h, t, r, g) at e))) (λ g. rw (h, t, r, g) (cc (rw (h, t, r, g) at e)))))
-        (λ t. rw (h, t) (cc (rw (h, t) at e))))
-        (λ h. rw h (cc (rw h at e)))
+        by-tests (λ h. rw h (cc (rw h at e))) (λ h t. rw (h, t) (cc (rw (h, t) at e))) (λ h t r. never (cc (rw (h, t, r) at e)))
+        (λ h t r g. rw (h, t, r, g) (cc (rw (h, t, r, g) at e))) (λ h t r g. never (cc (rw (h, t, r, g) at e)))
 
     tested-rowless : given none ≡ testedIndex number table page → x ≡ pageTests number table page x y
     tested-rowless e =
-        on (numberAgrees number page)
-        (λ h. on (typeAgrees table page)
-        (λ t. on (rowless page) (λ r. rw (h, t, r))
-        (λ r. on (indexGood page) (λ g. never (cc (rw (h, t, r, g) at e))) (λ g. never (cc (rw (h, t, r, g) at e)))))
-        (λ t. never (cc (rw (h, t) at e))))
-        (λ h. never (cc (rw h at e)))
+        by-tests (λ h. never (cc (rw h at e))) (λ h t. never (cc (rw (h, t) at e))) (λ h t r. rw (h, t, r))
+        (λ h t r g. never (cc (rw (h, t, r, g) at e))) (λ h t r g. never (cc (rw (h, t, r, g) at e)))
 
   pub record Rowful (index : RowIndex) : Type 0 where
     pub numbered : numberAgrees number page ≡ true
@@ -79,14 +84,9 @@ module _ (number : ℕ) (table : Table) (page : Bytes) where
 
   tested-good : {index : RowIndex} → given (some index) ≡ testedIndex number table page → Rowful index
   tested-good e =
-      on (numberAgrees number page)
-      (λ h. on (typeAgrees table page)
-      (λ t. on (rowless page) (λ r. never (cc (rw (h, t, r) at e)))
-      (λ r. on (indexGood page)
-      (λ g. record { numbered = h; typed = t; rows = r; good = g; index-is = cc (rw (h, t, r, g) at e) })
-      (λ g. never (cc (rw (h, t, r, g) at e)))))
-      (λ t. never (cc (rw (h, t) at e))))
-      (λ h. never (cc (rw h at e)))
+      by-tests (λ h. never (cc (rw h at e))) (λ h t. never (cc (rw (h, t) at e))) (λ h t r. never (cc (rw (h, t, r) at e)))
+      (λ h t r g. never (cc (rw (h, t, r, g) at e)))
+      (λ h t r g. record { numbered = h; typed = t; rows = r; good = g; index-is = cc (rw (h, t, r, g) at e) })
 
   module _ {index : RowIndex} (g : Rowful index) where
     pub entries-inside : indexSize (index .entries) ≤ length page
@@ -121,10 +121,10 @@ module _ (number : ℕ) (table : Table) (page : Bytes) where
   count-then (refused f) found = refl
 
   pub counted-rows : {index : RowIndex} → Rowful index
-      → checkedCount table (take (index .start) page) (map (rowOf number page) (presentFrom page (index .entries) 0)) ≡ rowCount (readPage number table page)
+      → checkedCount table (take (index .start) page) (rowsFrom number page (index .entries) 0) ≡ rowCount (readPage number table page)
   unfolding readPage checkedCount beforeIndex rowEntries
   counted-rows g =
-      let found = map (rowOf number page) (presentFrom page (entries page) 0) in
+      let found = rowsFrom number page (entries page) 0 in
       rw (g .numbered, g .typed, g .rows, g .good, g .index-is) (count-then (checkRows table (beforeIndex page) found) found)
 
 -- the row of a rank among these entries, which is to start there
@@ -138,7 +138,7 @@ judged-ranked number table page before start rank chosen =
     (λ h. rw (length-map chosen (rowOf number page), h))
 
 pub ranked-row : (number : ℕ) (table : Table) (page : Bytes) (start rank : ℕ) {index : RowIndex} → Rowful number table page index → {found : Nth Row}
-    → found ≡ nth noRow (map (rowOf number page) (presentFrom page (index .entries) 0)) rank 0
+    → found ≡ nth noRow (rowsFrom number page (index .entries) 0) rank 0
     → judgedAt table (take (index .start) page) start found ≡ readRow number table page start rank
 unfolding readRow beforeIndex isRow rowEntries
 ranked-row number table page start rank g s =

@@ -5,14 +5,11 @@
 --     end             after the last entry
 use mathlib.Core.Path.{_≡_, refl, sym, _∙_}
 use mathlib.Core.Bool.{true, false}
-use mathlib.Core.List.{map}
 use Prim.Native.Nat.{ℕ, suc, _+_, _-_, _<_, _≤_}
 use native.Mathlib.Nat.{sub-zero}
 use native.Mathlib.Omega.{arith}
 use lib.ListN.{length}
 use Rattle.lists.specs.Alias.{Bytes}
-use Rattle.lists.proofs.Choice.{never}
-use Rattle.refusal.specs.declared.Fault.{Fault}
 use Rattle.refusal.specs.declared.Refusal.{Refusal}
 use Rattle.refusal.specs.Fault.{faultOf}
 use Rattle.refusal.specs.Answer.{Answer, given, refused, andThen}
@@ -20,29 +17,17 @@ use Rattle.table.specs.declared.Table.{Table}
 use Rattle.page.specs.declared.Row.{Row}
 use Rattle.page.specs.declared.RowRead.{RowRead}
 use Rattle.page.specs.declared.RowRead.the-variants.{Good, Refused}
-use Rattle.page.specs.Index.{present, presentFrom}
+use Rattle.page.specs.Index.{present}
 use Rattle.page.specs.Found.{Rows, rowOf}
-use Rattle.page.specs.Read.{checkFound, checkRows}
+use Rattle.page.specs.Read.{checkFound, judged, checkRows}
 use Rattle.page.specs.OneRow.{rowReadOf}
-use Rattle.page.specs.Private.{checkedCount, judged}
+use Rattle.page.specs.Private.{rowsFrom, checkedCount}
+use Rattle.page.proofs.PageAnswer.{good-check, fault-check}
 use Rattle.page.proofs.EntriesInside.{entry-absent, entry-present, entry-none}
-
--- the rows of so many entries from i on
-abbrev rowsFrom : (number : ℕ) (page : Bytes) (left i : ℕ) → Rows
-rowsFrom number page left i = map (rowOf number page) (presentFrom page left i)
 
 -- what these rows answer, with so many found before
 pub countFrom : (table : Table) (before : Bytes) (found : ℕ) (rows : Rows) → Answer ℕ
 countFrom table before found rows = andThen (checkRows table before rows) (λ _. given (found + length rows))
-
--- a row is good exactly when its check is, and its fault is the check's
-good-check : (row other : Row) (check : Answer (Unit {0})) → given other ≡ andThen check (λ _. given row) → check ≡ given tt
-good-check row other (given tt) e = refl
-good-check row other (refused f) e = never (cc)
-
-fault-check : (row : Row) (f : Fault) (check : Answer (Unit {0})) → refused f ≡ andThen check (λ _. given row) → check ≡ refused f
-fault-check row f (given tt) e = never (cc)
-fault-check row f (refused g) e = cc
 
 pub record Reading (number : ℕ) (table : Table) (page before : Bytes) (n i found : ℕ) : Type 0 where
   pub entry : i ≤ n
@@ -77,7 +62,7 @@ module _ {number : ℕ} {table : Table} {page before : Bytes} {n i found : ℕ} 
         → Reading number table page before n (i + 1) (found + 1)
     unfolding countFrom later
     good {other = other} e k =
-        let check = good-check row other (checkFound table before row) (rw e at k) in
+        let check = good-check row other (checkFound table before row) (rw e at k) .0 in
         let own : checkFound table before (rowOf number page i) ≡ given tt = rw s at check in
         let z : found + suc (length later) ≡ found + 1 + length later = omega arith in
         record { entry = omega arith; few = omega arith; rest = turn own ∙ rw z }

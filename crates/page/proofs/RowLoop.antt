@@ -5,7 +5,6 @@
 --     end            after the last entry
 use mathlib.Core.Path.{_≡_, sym, _∙_}
 use mathlib.Core.Bool.{true, false}
-use mathlib.Core.List.{map}
 use Prim.Native.Nat.{ℕ, suc, _+_, _-_, _<_, _≤_}
 use native.Mathlib.Nat.{sub-zero}
 use native.Mathlib.Omega.{arith}
@@ -13,13 +12,10 @@ use Rattle.lists.specs.Alias.{Bytes}
 use Rattle.lists.specs.Nth.{element, past, nth}
 use Rattle.lists.proofs.Nth.{nth-none, nth-first, nth-skip}
 use Rattle.page.specs.declared.Row.{Row}
-use Rattle.page.specs.Index.{present, presentFrom}
-use Rattle.page.specs.Found.{Rows, rowOf, noRow}
+use Rattle.page.specs.Index.{present}
+use Rattle.page.specs.Found.{rowOf, noRow}
+use Rattle.page.specs.Private.{rowsFrom}
 use Rattle.page.proofs.EntriesInside.{entry-absent, entry-present, entry-none}
-
--- the rows of so many entries from i on
-abbrev rowsFrom : (number : ℕ) (page : Bytes) (left i : ℕ) → Rows
-rowsFrom number page left i = map (rowOf number page) (presentFrom page left i)
 
 pub record Finding (number : ℕ) (page : Bytes) (n k i found : ℕ) : Type 0 where
   pub entry : i ≤ n

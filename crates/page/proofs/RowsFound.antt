@@ -9,17 +9,19 @@ use Prim.Native.Nat.{ℕ, zero, suc, _+_, _<_, _≤_}
 use native.Mathlib.Omega.{arith}
 use lib.ListN.{length, getD, drop}
 use Rattle.lists.specs.Alias.{Bytes}
-use Rattle.lists.proofs.Choice.{on, never, cond-holds}
+use Rattle.lists.proofs.Choice.{never, cond-holds}
 use Rattle.lists.proofs.Each.{Each, each-of}
 use Rattle.refusal.specs.declared.Fault.{Fault}
 use Rattle.refusal.specs.Fault.{fault}
 use Rattle.refusal.specs.Answer.{Answer, given, refused, andThen}
 use Rattle.table.specs.declared.Table.{Table}
 use Rattle.row.specs.Check.{checkRow}
-use Rattle.page.specs.Header.{numberAgrees, typeAgrees, rowless, entries}
+use Rattle.page.specs.Header.{rowless, entries}
 use Rattle.page.specs.Index.{present, rowStart, presentFrom}
 use Rattle.page.specs.Found.{rowOf}
 use Rattle.page.specs.Read.{indexGood, beforeIndex, rowEntries, pageRows, onRow, checkRows, readPage}
+use Rattle.page.proofs.PageTests.{by-tests}
+use Rattle.page.proofs.PageAnswer.{fault-check}
 
 -- a present entry among so many from j on
 pub record Present (page : Bytes) (k j i : ℕ) : Type 0 where
@@ -98,18 +100,11 @@ page-rows-fault : (number : ℕ) (table : Table) (page : Bytes) (f : Fault) → 
     → checkRows table (beforeIndex page) (pageRows number page) ≡ refused f
 unfolding readPage
 page-rows-fault number table page f e k =
-    on (numberAgrees number page)
-    (λ h. on (typeAgrees table page)
-    (λ t. on (rowless page) (λ r. never (cc (rw (h, t, r) at e)))
-    (λ r. on (indexGood page) (λ g. by (checkRows table (beforeIndex page) (pageRows number page)) (rw (h, t, r, g) at e))
-    (λ g. other 13 (λ z. omega arith) (λ z. omega arith) (cc (rw (h, t, r, g) at e)))))
-    (λ t. other 25 (λ z. omega arith) (λ z. omega arith) (cc (rw (h, t) at e))))
-    (λ h. other 12 (λ z. omega arith) (λ z. omega arith) (cc (rw h at e)))
+    by-tests number table page (λ h. other 12 (λ z. omega arith) (λ z. omega arith) (cc (rw h at e)))
+    (λ h t. other 25 (λ z. omega arith) (λ z. omega arith) (cc (rw (h, t) at e))) (λ h t r. never (cc (rw (h, t, r) at e)))
+    (λ h t r g. other 13 (λ z. omega arith) (λ z. omega arith) (cc (rw (h, t, r, g) at e)))
+    (λ h t r g. fault-check (pageRows number page) f (checkRows table (beforeIndex page) (pageRows number page)) (sym (rw (h, t, r, g) at e)))
   where
-    by : (check : Answer (Unit {0})) → andThen check (λ _. given (pageRows number page)) ≡ refused f → check ≡ refused f
-    by (given tt) q = never (cc)
-    by (refused g) q = cc
-
     other : {A : Type 0} (n : ℕ) → (n ≡ 14 → ⊥) → (n ≡ 15 → ⊥) → fault n number ≡ f → A
     other n a b q =
         let same : n ≡ f .number = ap (λ (h : Fault). h .number) q in

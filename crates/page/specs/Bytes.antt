@@ -26,9 +26,9 @@ flagsByte page i = anyFrom (λ (j : ℕ). within (flagsAt page j) 2 i) (entries 
 unfoldable pub offsetByte : (page : Bytes) (j i : ℕ) → Bool
 offsetByte page j i = present page j && within (offsetAt page j) 2 i
 
--- Rules 7.6, 7.7: byte i of the page is a relevant byte of the row at start; rows is the part before the index.
-unfoldable pub rowByteAt : (table : Table) (rows : Bytes) (start i : ℕ) → Bool
-rowByteAt table rows start i = leb start i && (ltb i (length rows) && rowByte table (drop start rows) (i - start))
+-- Rules 7.6, 7.7: byte i of the page is a relevant byte of the row at start; before is the part before the index.
+unfoldable pub rowByteAt : (table : Table) (before : Bytes) (start i : ℕ) → Bool
+rowByteAt table before start i = leb start i && (ltb i (length before) && rowByte table (drop start before) (i - start))
 
 -- Rules 7.5, 7.6: the offset and the row of entry j, where it is present
 unfoldable pub entryByte : (table : Table) (page : Bytes) (j i : ℕ) → Bool

@@ -6,14 +6,14 @@ use lib.ListN.{length, getD}
 use lib.Dec.{eqb, ltb}
 use Rattle.lists.specs.Alias.{Bytes}
 use Rattle.refusal.specs.Fault.{fault, faultOf}
-use Rattle.refusal.specs.Answer.{Answer, given, refused, refuseIf, andThen}
+use Rattle.refusal.specs.Answer.{Answer, given, refused, refuseIf}
 use Rattle.table.specs.declared.Table.{Table}
 use Rattle.page.specs.declared.Row.{Row}
 use Rattle.page.specs.declared.RowRead.{RowRead}
 use Rattle.page.specs.declared.RowRead.the-variants.{Good, Refused}
 use Rattle.page.specs.Index.{rowStart}
 use Rattle.page.specs.Found.{rowOf}
-use Rattle.page.specs.Read.{beforeIndex, rowEntries, checkFound, pageTests}
+use Rattle.page.specs.Read.{beforeIndex, rowEntries, judged, pageTests}
 
 -- the row of this rank
 abbrev pub rowRanked : (number : ℕ) (page : Bytes) (rank : ℕ) → Row
@@ -28,7 +28,7 @@ unfoldable pub readRow : (number : ℕ) (table : Table) (page : Bytes) (start ra
 readRow number table page start rank =
     pageTests number table page (refused (fault 18 0))
     (refuseIf (not (isRow page start rank)) (fault 18 0)
-    (andThen (checkFound table (beforeIndex page) (rowRanked number page rank)) (λ _. given (rowRanked number page rank))))
+    (judged table (beforeIndex page) (rowRanked number page rank)))
 
 -- the answer for each case of the code's enum
 abbrev pub rowReadOf : RowRead → Answer Row

@@ -1,5 +1,6 @@
 -- Definitions that only the contracts of private functions and the proofs cite.
 use mathlib.Core.Bool.{cond, not, _&&_}
+use mathlib.Core.List.{map}
 use mathlib.Core.Option.{Option, none, some}
 use Prim.Native.Nat.{ℕ, _-_, _%_, _^_, min}
 use lib.Count.{ones}
@@ -15,10 +16,10 @@ use Rattle.page.specs.declared.RowIndex.{RowIndex}
 use Rattle.page.specs.declared.PageTested.{PageTested}
 use Rattle.page.specs.declared.PageTested.the-variants.{Index, Rowless, Refused}
 use Rattle.page.specs.Header.{rowless, entries}
-use Rattle.page.specs.Index.{indexSize, flagsAt}
+use Rattle.page.specs.Index.{indexSize, flagsAt, presentFrom}
 use Rattle.page.specs.declared.Row.{Row}
-use Rattle.page.specs.Found.{Rows}
-use Rattle.page.specs.Read.{indexGood, checkFound, checkRows, pageTests}
+use Rattle.page.specs.Found.{Rows, rowOf}
+use Rattle.page.specs.Read.{indexGood, judged, checkRows, pageTests}
 
 -- Rules 4.13, 4.14, 5.4, 5.33: a page's row index, which is good only where the page may have rows.
 abbrev pub rowIndex : (page : Bytes) → RowIndex
@@ -47,13 +48,13 @@ testedOf (Index index) = given (some index)
 testedOf Rowless = given none
 testedOf (Refused refusal) = refused (faultOf refusal)
 
+-- the rows of the present ones among so many entries from i on
+abbrev pub rowsFrom : (number : ℕ) (page : Bytes) (left i : ℕ) → Rows
+rowsFrom number page left i = map (rowOf number page) (presentFrom page left i)
+
 -- the number of these rows, unless one of them is refused
 unfoldable pub checkedCount : (table : Table) (before : Bytes) (rows : Rows) → Answer ℕ
 checkedCount table before rows = andThen (checkRows table before rows) (λ _. given (length rows))
-
--- a row, unless it is refused
-abbrev pub judged : (table : Table) (before : Bytes) (row : Row) → Answer Row
-judged table before row = andThen (checkFound table before row) (λ _. given row)
 
 -- the row that was found for a rank, which is to start there
 abbrev pub judgedAt : (table : Table) (before : Bytes) (start : ℕ) (found : Nth Row) → Answer Row

@@ -51,6 +51,10 @@ onRow row (refused f) = refused (faultAt (f .number) (row .page) (row .entry))
 abbrev pub checkFound : (table : Table) (before : Bytes) (row : Row) → Answer (Unit {0})
 checkFound table before row = onRow row (checkRow table (drop (row .start) before))
 
+-- such a row, unless it is refused
+abbrev pub judged : (table : Table) (before : Bytes) (row : Row) → Answer Row
+judged table before row = andThen (checkFound table before row) (λ _. given row)
+
 -- Rule 5.10: of rows one after the other.
 unfoldable pub checkRows : (table : Table) (before : Bytes) (rows : Rows) → Answer (Unit {0})
 checkRows table before [] = given tt

@@ -1,6 +1,5 @@
 // Reading one page: its header, its row index and its rows. A page is its own part of the image.
 ghost use mathlib.Core.Path.{_≡_};
-ghost use mathlib.Core.List.{map};
 ghost use Prim.Native.Nat.{_+_, _-_, _*_, _/_, _%_, _^_, _<_, _≤_};
 ghost use lib.ListN.{length, set, drop};
 ghost use Rattle.number.specs.Number.{le16};
@@ -11,10 +10,10 @@ ghost use Rattle.row.specs.Check.{checkRow, checkOf};
 ghost use Rattle.page.specs.Header.{next-page, numberAgrees, typeAgrees, rowless, entries, num-rows};
 ghost use Rattle.page.specs.Index.{indexSize, flagsAt, present, rowStart, presentFrom};
 ghost use Rattle.page.specs.Found.{rowOf, noRow};
-ghost use Rattle.page.specs.Read.{indexGood, beforeIndex, entryPlaces, rowPlaces, readPage, rowCount, pageReadOf};
-ghost use Rattle.page.specs.Row.{pageRow, rowAtOf};
+ghost use Rattle.page.specs.Read.{indexGood, beforeIndex, judged, entryPlaces, rowPlaces, readPage, rowCount, pageReadOf};
+ghost use Rattle.page.specs.Row.{pageRow, rowAtOf, Near};
 ghost use Rattle.page.specs.OneRow.{readRow, rowReadOf};
-ghost use Rattle.page.specs.Private.{rowIndex, entriesRead, groupOnes, testedIndex, testedOf, checkedCount, judged, judgedAt};
+ghost use Rattle.page.specs.Private.{rowIndex, entriesRead, groupOnes, testedIndex, testedOf, rowsFrom, checkedCount, judgedAt};
 use format::Page;
 use format::RowGroup;
 use refusal::Refusal;
@@ -237,7 +236,7 @@ fn row_start(page: &[u8], i: u16) -> usize
 // The row of entry i on a page of this number.
 fn row_of(page: &[u8], number: u32, i: u16) -> Row
     requires { ⌜ groupSize * (i / 16) + 6 + 2 * (i % 16) ≤ length (now page) ⌝ }
-    ensures { λ r. ⌜ r ≡ rowOf number (now (page .entry)) i ⌝ }
+    ensures { λ r. ⌜ (r ≡ rowOf number (now (page .entry)) i) × (r .start ≤ heapStart + 0xffff) ⌝ }
 {
     let start = row_start(page, i);
     Row {
@@ -278,8 +277,7 @@ fn judge_row(before: &[u8], table: Table, row: Row) -> RowRead
 // Checks the present rows among n entries and counts them.
 fn read_rows(page: &[u8], before: &[u8], number: u32, table: Table, n: u16) -> PageRead
     requires { ⌜ indexSize n ≤ length (now page) ⌝ }
-    ensures { λ r. ⌜ pageReadOf r ≡ checkedCount table (now (before .entry))
-        (map (rowOf number (now (page .entry))) (presentFrom (now (page .entry)) n 0)) ⌝ }
+    ensures { λ r. ⌜ pageReadOf r ≡ checkedCount table (now (before .entry)) (rowsFrom number (now (page .entry)) n 0) ⌝ }
 {
     let mut i: u16 = 0;
     let mut found: usize = 0;
@@ -355,7 +353,7 @@ pub fn fill(page: &[u8], start: u32, list: &mut [u32]) -> usize
 // Finds row k among the present rows of n entries.
 fn find_row(page: &[u8], number: u32, n: u16, k: usize) -> RowAt
     requires { ⌜ indexSize n ≤ length (now page) ⌝ }
-    ensures { λ r. ⌜ rowAtOf r ≡ nth noRow (map (rowOf number (now (page .entry))) (presentFrom (now (page .entry)) n 0)) k 0 ⌝ }
+    ensures { λ r. ⌜ (rowAtOf r ≡ nth noRow (rowsFrom number (now (page .entry)) n 0) k 0) × Near r ⌝ }
 {
     let mut i: u16 = 0;
     let mut found: usize = 0;
@@ -373,7 +371,7 @@ fn find_row(page: &[u8], number: u32, n: u16, k: usize) -> RowAt
 
 // Row k of a page of this number, counted from 0 among its present rows.
 pub fn row_at(page: &[u8], number: u32, k: usize) -> RowAt
-    ensures { λ r. ⌜ rowAtOf r ≡ pageRow number (now (page .entry)) k ⌝ }
+    ensures { λ r. ⌜ (rowAtOf r ≡ pageRow number (now (page .entry)) k) × Near r ⌝ }
 {
     find_row(page, number, entries_read(row_index(page)), k)
 }

@@ -1,5 +1,5 @@
 -- Rules 5.8, 5.9, 5.12: the check of a row, which is its own part of the page (specs/Layout).
--- The page, which 14 and 15 carry, is not known here; reading a page sets it (page/Read `onPage`).
+-- The page and the entry, which 14 and 15 carry, are not known here; reading a page sets them (page/Read `onRow`).
 use Prim.Native.Nat.{ℕ, zero, suc, _+_}
 use lib.ListN.{length}
 use lib.Dec.{ltb}

@@ -40,7 +40,7 @@ fileWalk c table m = walkFrom (filePages c table (m .image) (m .map)) (c .«firs
 
 module _ (len : ℕ) (m : Memory) (table : Table) where
   pub table-walk-holds : (P : Walk Rows → Type 0) → P (given (waiting 0 [] 0))
-      → ((f : Fault) → (9 ≤ f .number) × (f .number ≤ 11) × (f .value ≡ 0) → P (refused f))
+      → ((f : Fault) → (9 ≤ f .number) × (f .number ≤ 11) × (f .value ≡ 0) × (f .entry ≡ 0) → P (refused f))
       → ((c : Chain) → bit (m .map) 0 ≡ true → tableChain len (blockAt (m .image) 0) table ≡ given c → P (fileWalk c table m))
       → P (tableWalk len m table)
   unfolding tableWalk

@@ -1,6 +1,6 @@
 -- Section 6: what the string at an offset of a row's part is. It rests on the numbers of crate number.
 -- s is the row's own part, from the row's start to the row index: to end where the index begins, or before, is to lie inside s.
--- The page, which 15 carries, is not known here; reading a page sets it (page/Read `onPage`).
+-- The page and the entry, which 15 carries, are not known here; reading a page sets them (page/Read `onRow`).
 use mathlib.Core.Bool.{Bool, cond, not, _&&_, _||_}
 use mathlib.Core.Option.{Option, none, some}
 use Prim.Native.Nat.{ℕ, _+_, _-_, _/_, _%_}

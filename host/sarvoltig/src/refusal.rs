@@ -213,6 +213,7 @@ impl Refusal {
     /// ```
     /// use sarvoltig::Refusal;
     /// assert!(Refusal::FileHeader.is_file_fault());
+    /// assert!(Refusal::PageType(7).is_file_fault());
     /// assert!(!Refusal::AnlzHeader.is_file_fault());
     /// ```
     #[must_use]

@@ -32,7 +32,7 @@ returns c =
     let told = c .before in
     let part = told .before .before .before in
     let turn = part .before in
-    let found = row-on _ _ _ _ (part .part .ensures) (told .before .before .row-at .ensures) in
+    let found = row-on _ _ _ _ (part .part .ensures) (told .before .before .row-at .ensures .0) in
     here (turn .before .loop .inv) (turn .loop-test .taken) (rw (told .row .given .1) at found)
 
 enum-known-row-2 : tie.Need-enum-known-row-2 Inv-loop μ-loop
@@ -42,7 +42,7 @@ add-found : tie.Need-add-found Inv-loop μ-loop
 add-found c =
     let told = c .before in
     let part = told .before .before .before in
-    let found = row-on _ _ _ _ (part .part .ensures) (told .before .before .row-at .ensures) in
+    let found = row-on _ _ _ _ (part .part .ensures) (told .before .before .row-at .ensures .0) in
     let kept = still-before (part .before .before .loop .inv) (rw (told .row2 .given .1) at found) in
     omega arith
 
@@ -60,7 +60,7 @@ loop-again c =
     let told = c .before .before in
     let part = told .before .before .before in
     let turn = part .before in
-    let found = row-on _ _ _ _ (part .part .ensures) (told .before .before .row-at .ensures) in
+    let found = row-on _ _ _ _ (part .part .ensures) (told .before .before .row-at .ensures .0) in
     next (turn .before .loop .inv) (turn .loop-test .taken) (rw (told .row2 .given .1) at found) (part-next _ _ _ (part .part .ensures) (c .next .ensures))
 
 returns-2 : tie.Need-returns-2 Inv-loop μ-loop

@@ -1,4 +1,4 @@
--- `export::record_in` meets its contract: the table asked for chooses the case of `askRecordIn`, and the answer goes by the row's place (proofs/ListedStart).
+-- `export::record_in` meets its contract: the table asked for chooses the case of `askRecordIn`, and the answer goes by the row (proofs/ListedStart).
 use mathlib.Core.Path.{ap, _∙_}
 use Rattle.refusal.specs.Answer.{Answer}
 use Rattle.intake.specs.Memory.{memory}

@@ -1,4 +1,4 @@
--- `export::text` meets its contract: the table asked for chooses the case of `askText`, and the answer goes by the row's place (proofs/RowAnswer).
+-- `export::text` meets its contract: the table asked for chooses the case of `askText`, and the answer goes by the row (proofs/RowAnswer).
 use mathlib.Core.Path.{ap, _∙_}
 use Rattle.refusal.specs.Answer.{Answer}
 use Rattle.intake.specs.Memory.{memory}

@@ -1,4 +1,4 @@
--- `listed::find` meets its contract: the tests that led to each return say which rung of `listedPlace` answers (proofs/ListedRungs).
+-- `listed::find` meets its contract: the tests that led to each return say which rung of `listedRow` answers (proofs/ListedRungs).
 use mathlib.Core.Path.{refl, ap, _∙_}
 use Prim.Native.Nat.{ℕ, _<_, min}
 use native.Mathlib.Nat.{mod-le}

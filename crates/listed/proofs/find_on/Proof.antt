@@ -1,4 +1,4 @@
--- `listed::find_on` meets its contract: the row that was read says whether its place is the answer.
+-- `listed::find_on` meets its contract: the row that was read is the answer, or its refusal.
 use borrow.Author.Needs.{needs}
 use native.Mathlib.Omega.{arith}
 use Rattle.listed.proofs.find_on.Statement.{statement}

@@ -29,7 +29,7 @@ returns c =
     let test = c .before .before in
     let turn = test .before .before in
     let present = sym (test .before .is-present .ensures) ∙ test .if1 .taken in
-    here (turn .before .loop .inv) (turn .loop-test .taken) present (c .row-of .ensures) (c .before .if2 .taken)
+    (here (turn .before .loop .inv) (turn .loop-test .taken) present (c .row-of .ensures .0) (c .before .if2 .taken), c .row-of .ensures .1)
 
 add-found : tie.Need-add-found Inv-loop μ-loop
 add-found c = search needs
@@ -50,7 +50,7 @@ loop-again c =
     (c .if1 .came)
 
 returns-2 : tie.Need-returns-2 Inv-loop μ-loop
-returns-2 c = end (c .before .loop .inv) (c .loop-test .left)
+returns-2 c = (end (c .before .loop .inv) (c .loop-test .left), tt)
 
 pub find-row-spec : {M : Type 1} → statement M
 find-row-spec =

@@ -36,7 +36,7 @@ returns c =
     let found = c .before .before in
     let arm = found .before .before in
     let index = index-told _ _ _ (arm .before .before .test-page .ensures) (arm .tested .given .1) in
-    c .judge-found .ensures ∙ ranked-row _ _ _ _ _ index (found .find-row .ensures)
+    c .judge-found .ensures ∙ ranked-row _ _ _ _ _ index (found .find-row .ensures .0)
 
 returns-2 : tie.Need-returns-2
 returns-2 c = no-row _ _ _ (c .before .before .test-page .ensures) _ _ (c .enum-told .given .1)

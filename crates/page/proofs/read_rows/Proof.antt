@@ -44,7 +44,7 @@ returns c =
     let test = judge .before .before in
     let turn = test .before .before in
     fault (turn .before .loop .inv) (turn .loop-test .taken) (sym (test .before .is-present .ensures) ∙ test .if1 .taken)
-    (judge .before .row-of .ensures) (c .before .judged .given .1) (judge .judge-row .ensures)
+    (judge .before .row-of .ensures .0) (c .before .judged .given .1) (judge .judge-row .ensures)
 
 add-i : tie.Need-add-i Inv-loop μ-loop
 add-i c = search needs
@@ -57,7 +57,7 @@ loop-again c =
     let turn = c .before .before in
     let inv = turn .before .loop .inv in
     let told = c .before .is-present .ensures in
-    ⊎-elim (λ w. rw (w .5) (good inv (turn .loop-test .taken) (sym told ∙ w .0 .taken) (w .1 .ensures) (w .4 .given .1) (w .2 .ensures)))
+    ⊎-elim (λ w. rw (w .5) (good inv (turn .loop-test .taken) (sym told ∙ w .0 .taken) (w .1 .ensures .0) (w .4 .given .1) (w .2 .ensures)))
     (λ w. rw (w .1) (absent inv (turn .loop-test .taken) (sym told ∙ w .0 .left)))
     (c .if1 .came)
 

@@ -17,7 +17,7 @@ returns : tie.Need-returns
 returns c =
     let read = c .before in
     let page = read .before .before .before .args .page .now in
-    rw (entries-kept page (read .before .row-index .ensures .0) (read .entries-read .ensures)) (c .find-row .ensures)
+    (rw (entries-kept page (read .before .row-index .ensures .0) (read .entries-read .ensures)) (c .find-row .ensures .0), c .find-row .ensures .1)
 
 pub row-at-spec : {M : Type 1} → statement M
 row-at-spec = tie.close (tie.spec row-index-requires entries-read-requires find-row-requires returns)

@@ -10,7 +10,7 @@ cast-t5 : tie.Need-cast-t5
 cast-t5 c = search needs
 
 returns : tie.Need-returns
-returns c = rw (c .row-start .ensures .0)
+returns c = (rw (c .row-start .ensures .0), c .row-start .ensures .1)
 
 pub row-of-spec : {M : Type 1} → statement M
 row-of-spec = tie.close (tie.spec row-start-requires cast-t5 returns)

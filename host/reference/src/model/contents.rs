@@ -1,4 +1,4 @@
-//! All records and strings of a table in a single pass over its chain (rules 4.1 to 4.10, 5.16 to 5.18).
+//! All records and strings of a table in a single pass over its chain (rules 4.1 to 4.10, 5.16 to 5.18, 5.34).
 
 use super::chain::walk;
 use super::question::{asked_table, Rows};

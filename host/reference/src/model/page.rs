@@ -1,4 +1,4 @@
-//! Page header and row index (rules 4.11 to 4.15, 5.1 to 5.10, 5.33).
+//! Page header and row index (rules 4.11 to 4.15, 4.19, 5.1 to 5.10, 5.33, 5.34).
 
 use super::bytes::{u16_at, u24_at, u32_at};
 use super::row::{Position, Row};

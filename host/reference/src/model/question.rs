@@ -1,4 +1,4 @@
-//! The three questions (rules 5.19 to 5.25), over whatever blocks are held.
+//! The three questions (rules 5.19 to 5.25, 5.34), over whatever blocks are held.
 
 use super::chain::{walk, Walked};
 use super::row::{Record, Row, Text};

@@ -2,7 +2,7 @@
 
 use std::{error, fmt};
 
-/// A refusal: its number, a value and an index entry (rules 2.1 to 2.21 and 14.15).
+/// A refusal: its number, a value and an index entry (rules 2.1 to 2.21, 2.32 and 14.15).
 ///
 /// ```
 /// use sarvoltig_reference::model::{Refusal, Session};
