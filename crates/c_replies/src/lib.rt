@@ -120,6 +120,19 @@ fn put_id(id: u32, result: &mut [u64]) -> u32
     c_reply::put(Code::DONE, &[id as u64], result)
 }
 
+// A row of the playlist tree.
+fn put_node(parent_id: u32, sort_order: u32, id: u32, raw_is_folder: u32, result: &mut [u64]) -> u32
+    ensures { λ r. ⌜ Replied (reply done («parent_id» ∷ «sort_order» ∷ id ∷ «raw_is_folder» ∷ [])) r (now (result .entry)) (now (result .exit)) ⌝ }
+{
+    let numbers = [
+        parent_id as u64,
+        sort_order as u64,
+        id as u64,
+        raw_is_folder as u64,
+    ];
+    c_reply::put(Code::DONE, &numbers, result)
+}
+
 fn put_record(record: Record, result: &mut [u64]) -> u32
     ensures { λ r. ⌜ Replied (reply done (recordOf «record» .numbers)) r (now (result .entry)) (now (result .exit)) ⌝ }
 {
@@ -140,16 +153,7 @@ fn put_record(record: Record, result: &mut [u64]) -> u32
             sort_order,
             id,
             raw_is_folder,
-        } => c_reply::put(
-            Code::DONE,
-            &[
-                parent_id as u64,
-                sort_order as u64,
-                id as u64,
-                raw_is_folder as u64,
-            ],
-            result,
-        ),
+        } => put_node(parent_id, sort_order, id, raw_is_folder, result),
         Record::PlaylistEntry {
             entry_index,
             track_id,

@@ -60,11 +60,11 @@ put-id-requires-5 c κs = search needs
 enum-known-record-8 : tie.Need-enum-known-record-8
 enum-known-record-8 c = search needs
 
-cast-t41 : tie.Need-cast-t41
-cast-t41 c = search needs
+put-node-requires : tie.Need-put-node-requires
+put-node-requires c κs = search needs
 
-cast-t42 : tie.Need-cast-t42
-cast-t42 c = search needs
+enum-known-record-9 : tie.Need-enum-known-record-9
+enum-known-record-9 c = search needs
 
 cast-t43 : tie.Need-cast-t43
 cast-t43 c = search needs
@@ -72,29 +72,14 @@ cast-t43 c = search needs
 cast-t44 : tie.Need-cast-t44
 cast-t44 c = search needs
 
+cast-t45 : tie.Need-cast-t45
+cast-t45 c = search needs
+
 slice-aggregate-put-2 : tie.Need-slice-aggregate-put-2
 slice-aggregate-put-2 c = search needs
 
 put-requires-2 : tie.Need-put-requires-2
 put-requires-2 c κs = search needs
-
-enum-known-record-9 : tie.Need-enum-known-record-9
-enum-known-record-9 c = search needs
-
-cast-t50 : tie.Need-cast-t50
-cast-t50 c = search needs
-
-cast-t51 : tie.Need-cast-t51
-cast-t51 c = search needs
-
-cast-t52 : tie.Need-cast-t52
-cast-t52 c = search needs
-
-slice-aggregate-put-3 : tie.Need-slice-aggregate-put-3
-slice-aggregate-put-3 c = search needs
-
-put-requires-3 : tie.Need-put-requires-3
-put-requires-3 c κs = search needs
 
 enum-known-record-10 : tie.Need-enum-known-record-10
 enum-known-record-10 c = search needs
@@ -148,13 +133,13 @@ same-length-8 : tie.Need-same-length-8
 same-length-8 c = search needs
 
 returns-8 : tie.Need-returns-8
-returns-8 c = rw (c .before .before .before .before .before .before .record8 .given .1) (c .before .before .put2 .ensures)
+returns-8 c = rw (c .before .before .before .before .before .record8 .given .1) (c .before .before .put-node .ensures)
 
 same-length-9 : tie.Need-same-length-9
 same-length-9 c = search needs
 
 returns-9 : tie.Need-returns-9
-returns-9 c = rw (c .before .before .before .before .before .before .record9 .given .1) (c .before .before .put3 .ensures)
+returns-9 c = rw (c .before .before .before .before .before .before .record9 .given .1) (c .before .before .put2 .ensures)
 
 same-length-10 : tie.Need-same-length-10
 same-length-10 c = search needs
@@ -185,18 +170,13 @@ put-record-spec =
     cast-put-id
     put-id-requires-5
     enum-known-record-8
-    cast-t41
-    cast-t42
+    put-node-requires
+    enum-known-record-9
     cast-t43
     cast-t44
+    cast-t45
     slice-aggregate-put-2
     put-requires-2
-    enum-known-record-9
-    cast-t50
-    cast-t51
-    cast-t52
-    slice-aggregate-put-3
-    put-requires-3
     enum-known-record-10
     put-id-requires-6
     same-length
