@@ -1,5 +1,5 @@
 //! Rows: fixed parts and strings (rules 5.8 to 5.14), and the numbers of a
-//! record (rules 5.16 to 5.18).
+//! record (rules 5.16 to 5.18, 5.34).
 
 use super::bytes::{u16_at, u32_at};
 use super::string::{read_string, Encoding};
