@@ -3,6 +3,7 @@
 -- `fill` and `row_at` go through the same entries (FillLoop, RowLoop).
 -- PageAnswer, OneRowAnswer: what an answer says of the page, and of one row. RowsFound: what is known of the entries of rows and of faults.
 -- PageAgree: the answer depends on the relevant bytes alone.
+pub mod IndexStep
 pub mod EntriesInside
 pub mod PresentCount
 pub mod RowEntries

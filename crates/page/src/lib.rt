@@ -8,7 +8,7 @@ ghost use Rattle.lists.specs.Write.{written};
 ghost use Rattle.lists.specs.Nth.{nth};
 ghost use Rattle.row.specs.Check.{checkRow, checkOf};
 ghost use Rattle.page.specs.Header.{next-page, numberAgrees, typeAgrees, rowless, entries, num-rows};
-ghost use Rattle.page.specs.Index.{indexSize, flagsAt, present, rowStart, presentFrom};
+ghost use Rattle.page.specs.Index.{restSize, indexSize, flagsAt, present, rowStart, presentFrom};
 ghost use Rattle.page.specs.Found.{rowOf, noRow};
 ghost use Rattle.page.specs.Read.{indexGood, beforeIndex, judged, entryPlaces, rowPlaces, readPage, rowCount, pageReadOf};
 ghost use Rattle.page.specs.Row.{pageRow, rowAtOf, Near};
@@ -98,17 +98,18 @@ fn num_rows(page: &[u8]) -> u32
     number::u24_at(page, 0x18) / 0x2000
 }
 
-// Bytes that a row index of n entries takes.
+// Rule 5.3: bytes of the entries behind the full groups, fewer than 16: pad bytes and flags, and an offset for each.
+fn rest_size(rest: u16) -> usize
+    ensures { λ r. ⌜ r ≡ restSize rest ⌝ }
+{
+    if rest == 0 { 0 } else { 4 + 2 * rest as usize }
+}
+
+// Rule 5.3: bytes of a row index of n entries: whole groups times their size, and the rest's part.
 fn index_size(n: u16) -> usize
     ensures { λ r. ⌜ r ≡ indexSize n ⌝ }
 {
-    let groups = (n / 16) as usize;
-    let rest = (n % 16) as usize;
-    if rest == 0 {
-        RowGroup::SIZE * groups
-    } else {
-        RowGroup::SIZE * groups + (4 + 2 * rest)
-    }
+    RowGroup::SIZE * (n / 16) as usize + rest_size(n % 16)
 }
 
 fn index_start(len: usize, size: usize) -> usize

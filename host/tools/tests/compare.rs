@@ -1,13 +1,15 @@
 //! The library and the reference give the same answers, lists, images and maps over 50,000 runs, of which one
 //! in a hundred is about a large file, and about pages with each number of entries around groups of 16; and the
-//! same answers about more than 100,000 ANLZ files.
+//! same answers about more than 100,000 ANLZ files. Where the row index begins is asked of the library alone, for every
+//! number of entries.
 
 use sarvoltig_reference::anlz::grid;
 use sarvoltig_reference::model::{
     index_size, RecordReply, Refusal, Rows, Session, BLOCK_SIZE, PAGE_HEADER,
 };
-use sarvoltig_reference::schedule::{anlz_run, compared_run, Call, Reply, Run};
+use sarvoltig_reference::schedule::{anlz_run, compared_run, Answer, Call, Reply, Run};
 use sarvoltig_tools::compare::{difference, first_difference};
+use sarvoltig_tools::library::Library;
 use std::collections::BTreeMap;
 use std::thread;
 
@@ -24,9 +26,11 @@ fn library_and_reference_agree() {
 const LEN_PAGE: usize = 32_768;
 const PLAYLIST_ENTRIES: u8 = 8;
 const MOST_ROWS: usize = 2_047;
+/// A row of the playlist entries; it has a fixed part and no strings.
+const ROW: [u8; 0x0c] = [5, 0, 0, 0, 6, 0, 0, 0, 7, 0, 0, 0];
 
-/// A page of 32,768 bytes of the playlist entries. All its entries name one row, at the start of the heap, but for the
-/// last where that is broken.
+/// A page of 32,768 bytes of the playlist entries. All entries of its index but the last name one row, at the start of
+/// the heap.
 #[derive(Clone, Copy, Debug)]
 struct PlaylistPage {
     entries: usize,
@@ -36,8 +40,10 @@ struct PlaylistPage {
     past_last: usize,
     /// How many present rows the header counts.
     num_rows: usize,
-    /// The row of the last entry starts a byte before the index.
-    broken: bool,
+    /// Where the index begins.
+    index_start: usize,
+    /// Where the row of the last entry starts.
+    last_start: usize,
 }
 
 impl PlaylistPage {
@@ -53,30 +59,30 @@ impl PlaylistPage {
         page[0x08] = PLAYLIST_ENTRIES;
         let row_counts = (self.entries + 8_192 * self.num_rows) as u32;
         page[0x18..0x1b].copy_from_slice(&row_counts.to_le_bytes()[..3]);
-        page[0x28..0x34].copy_from_slice(&[5, 0, 0, 0, 6, 0, 0, 0, 7, 0, 0, 0]);
+        page[PAGE_HEADER..][..ROW.len()].copy_from_slice(&ROW);
+        if self.last_fits() {
+            page[self.last_start..][..ROW.len()].copy_from_slice(&ROW);
+        }
         for entry in self.entries - self.present..self.entries + self.past_last {
             page[LEN_PAGE - 36 * (entry / 16) - 4 + entry % 16 / 8] |= 1 << (entry % 8);
         }
-        if self.broken {
-            let last = self.entries - 1;
+        if let Some(last) = self.entries.checked_sub(1) {
             let at = LEN_PAGE - 36 * (last / 16) - 6 - 2 * (last % 16);
-            page[at..at + 2].copy_from_slice(&(self.last_offset() as u16).to_le_bytes());
+            let offset = (self.last_start - PAGE_HEADER) as u16;
+            page[at..at + 2].copy_from_slice(&offset.to_le_bytes());
         }
         file
     }
 
-    /// Where the row of the last entry starts in the heap.
-    fn last_offset(self) -> usize {
-        match self.broken {
-            true => LEN_PAGE - index_size(self.entries) - PAGE_HEADER - 1,
-            false => 0,
-        }
+    /// Whether the row of the last entry ends where the index begins, or before.
+    fn last_fits(self) -> bool {
+        self.last_start + ROW.len() <= self.index_start
     }
 
     fn places(self) -> Vec<u32> {
         let mut places = vec![(LEN_PAGE + PAGE_HEADER) as u32; self.present];
         if let Some(last) = places.last_mut() {
-            *last += self.last_offset() as u32;
+            *last = (LEN_PAGE + self.last_start) as u32;
         }
         places
     }
@@ -126,7 +132,7 @@ impl PlaylistPage {
             entry: entry as u64,
         };
         match self.num_rows == self.present {
-            true => self.broken.then(|| refusal(14, self.entries - 1)),
+            true => (!self.last_fits()).then(|| refusal(14, self.entries - 1)),
             false => Some(refusal(13, 0)),
         }
     }
@@ -164,8 +170,8 @@ impl PlaylistPage {
 
 /// Pages of so many entries, all present or as many as the header has room to count. It counts them right, without and
 /// with flags set past the last entry; one too many; with those flags; and one too few. On one page more it counts them
-/// right and the last row is broken. Of more than 2,047 entries all are present on another, which has the low 11 bits of
-/// their number.
+/// right and the last row starts a byte before the index. Of more than 2,047 entries all are present on another, which
+/// has the low 11 bits of their number.
 fn playlist_pages(entries: usize) -> Vec<PlaylistPage> {
     let past_last = entries.next_multiple_of(16) - entries;
     let page = |past_last, too_many| {
@@ -175,7 +181,8 @@ fn playlist_pages(entries: usize) -> Vec<PlaylistPage> {
             present,
             past_last,
             num_rows: present + too_many,
-            broken: false,
+            index_start: LEN_PAGE - index_size(entries),
+            last_start: PAGE_HEADER,
         }
     };
     let right = page(0, 0);
@@ -191,7 +198,7 @@ fn playlist_pages(entries: usize) -> Vec<PlaylistPage> {
             ..right
         });
         pages.push(PlaylistPage {
-            broken: true,
+            last_start: right.index_start - 1,
             ..right
         });
     }
@@ -203,12 +210,23 @@ fn playlist_pages(entries: usize) -> Vec<PlaylistPage> {
     pages
 }
 
-/// What the reference answers to the last four calls that have an answer.
-fn last_replies(calls: &[Call]) -> Vec<Result<Reply, Refusal>> {
-    let mut run = Run::new(Session::new(Vec::new(), Vec::new()));
-    let answers = calls.iter().filter_map(|call| call.make(&mut run));
+/// The last four of some answers.
+fn last_replies(answers: impl Iterator<Item = Answer>) -> Vec<Result<Reply, Refusal>> {
     let replies: Vec<_> = answers.map(|answer| answer.reply).collect();
     replies[replies.len() - 4..].to_vec()
+}
+
+/// What the reference answers to the last four calls that have an answer.
+fn reference_replies(calls: &[Call]) -> Vec<Result<Reply, Refusal>> {
+    let mut run = Run::new(Session::new(Vec::new(), Vec::new()));
+    last_replies(calls.iter().filter_map(|call| call.make(&mut run)))
+}
+
+/// What the library answers to them.
+fn library_replies(calls: &[Call]) -> Vec<Result<Reply, Refusal>> {
+    let mut library = Library::default();
+    let mut made = |call| library.make(call).expect("an answer of the library");
+    last_replies(calls.iter().filter_map(&mut made))
 }
 
 #[test]
@@ -216,8 +234,34 @@ fn each_number_of_entries_around_groups_of_16() {
     for entries in (0..=8_191).filter(|entries| (entries + 1) % 16 < 3) {
         for page in playlist_pages(entries) {
             let calls = page.calls();
-            assert_eq!(last_replies(&calls), page.expected(), "{page:?}");
+            assert_eq!(reference_replies(&calls), page.expected(), "{page:?}");
             assert_eq!(difference(&calls), None, "{page:?}");
+        }
+    }
+}
+
+/// The index of no entries begins at the page's end, and with one entry more it begins earlier: by 6 bytes where the
+/// entries before were a multiple of 16, else by 2. A row that ends where the index begins is found; one that starts a
+/// byte later is 14. A page without entries has no row, so pages of 1 to 8,191 entries are asked.
+#[test]
+fn one_entry_more_moves_the_index_by_6_bytes_or_2() {
+    let mut index_start = LEN_PAGE;
+    for before in 0..8_191 {
+        index_start -= if before % 16 == 0 { 6 } else { 2 };
+        let fits = PlaylistPage {
+            entries: before + 1,
+            present: 1,
+            past_last: 0,
+            num_rows: 1,
+            index_start,
+            last_start: index_start - ROW.len(),
+        };
+        let late = PlaylistPage {
+            last_start: fits.last_start + 1,
+            ..fits
+        };
+        for page in [fits, late] {
+            assert_eq!(library_replies(&page.calls()), page.expected(), "{page:?}");
         }
     }
 }

@@ -16,7 +16,7 @@ const FLAGS_SIZE: usize = 2;
 const OFFSET_SIZE: usize = 2;
 const NO_ROWS_FLAG: u8 = 0x40;
 
-/// The length of a row index of so many entries.
+/// The length of a row index of so many entries (rule 5.3).
 ///
 /// ```
 /// use sarvoltig_reference::model::index_size;
@@ -24,10 +24,14 @@ const NO_ROWS_FLAG: u8 = 0x40;
 /// assert_eq!([0, 1, 16, 17].map(index_size), [0, 6, 36, 42]);
 /// ```
 pub fn index_size(entries: usize) -> usize {
-    let full = GROUP_SIZE * (entries / GROUP_ENTRIES);
-    match entries % GROUP_ENTRIES {
-        0 => full,
-        rest => full + FLAGS_SIZE + PAD_SIZE + OFFSET_SIZE * rest,
+    GROUP_SIZE * (entries / GROUP_ENTRIES) + rest_size(entries % GROUP_ENTRIES)
+}
+
+/// The length of the index's part for a rest of so many entries, fewer than 16.
+fn rest_size(entries: usize) -> usize {
+    match entries {
+        0 => 0,
+        _ => FLAGS_SIZE + PAD_SIZE + OFFSET_SIZE * entries,
     }
 }
 

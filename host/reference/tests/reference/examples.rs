@@ -1,8 +1,8 @@
 //! The cases of rules 9.1 to 9.4, and edges of single rules.
 
 use sarvoltig_reference::model::{
-    index_size, read_string, Encoding, RecordReply, Refusal, Rows, Session, StringText, Table,
-    TextReply,
+    index_size, read_string, Encoding, RecordReply, Refusal, RowCounts, Rows, Session, StringText,
+    Table, TextReply,
 };
 
 use crate::{found, opened, refused, whole};
@@ -50,6 +50,19 @@ fn c1_to_c3_lengths() {
 #[test]
 fn c4_index_sizes() {
     assert_eq!([0, 1, 16, 17].map(index_size), [0, 6, 36, 42]);
+}
+
+/// From 0 entries, whose index has no bytes, to the most that a header can hold.
+#[test]
+fn one_entry_more_adds_6_bytes_or_2() {
+    for entries in 0..RowCounts::MOST_ENTRIES {
+        let added = if entries % 16 == 0 { 6 } else { 2 };
+        assert_eq!(
+            index_size(entries + 1),
+            index_size(entries) + added,
+            "{entries}"
+        );
+    }
 }
 
 #[test]
