@@ -98,7 +98,7 @@ fn num_rows(page: &[u8]) -> u32
     number::u24_at(page, 0x18) / 0x2000
 }
 
-// Rule 5.3: bytes of the entries behind the full groups, fewer than 16: pad bytes and flags, and an offset for each.
+// Rule 5.3: bytes that a rest of fewer than 16 entries takes: four for pad bytes and flags, two for each offset.
 fn rest_size(rest: u16) -> usize
     ensures { λ r. ⌜ r ≡ restSize rest ⌝ }
 {
