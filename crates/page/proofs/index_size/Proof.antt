@@ -1,4 +1,4 @@
--- `page::index_size` meets its contract; the sum fits because no index of 16-bit counts is longer (`index-bound`).
+-- `page::index_size` meets its contract. The sum fits, since an index of a 16-bit count has at most 0x40000 bytes (`index-bound`).
 use borrow.Author.Needs.{needs}
 use native.Mathlib.Omega.{arith}
 use Rattle.page.specs.Index.{indexSize}
