@@ -10,10 +10,11 @@ use native.Mathlib.Nat.{suc-add}
 use lib.ListN.{length}
 use borrow.Author.Tests.{not-false}
 use Rattle.lists.specs.Member.{isMember}
+use Rattle.lists.specs.Distinct.{Distinct}
 use Rattle.format.specs.Place.{linkable}
 use Rattle.chain.specs.Walk.{Pages, walk, walkFrom}
 use Rattle.lists.proofs.Choice.{cond-agree, never}
-use Rattle.lists.proofs.Member.{Distinct, member-cases, distinct-few}
+use Rattle.lists.proofs.Member.{member-cases, distinct-few}
 use Rattle.chain.proofs.Linkable.{inside-both}
 use Rattle.chain.proofs.WalkStep.{readThen}
 

@@ -9,13 +9,14 @@ use native.Mathlib.Numerals.{add-one}
 use native.Mathlib.Omega.{arith}
 use lib.ListN.{length}
 use Rattle.lists.specs.Member.{isMember}
+use Rattle.lists.specs.Distinct.{Distinct}
 use Rattle.refusal.specs.Answer.{Answer, given, refused}
 use Rattle.format.specs.Place.{linkable}
 use Rattle.page.specs.Found.{Rows}
 use Rattle.chain.specs.Walk.{Pages, Walk, full, waiting, inFront, walk, walkFrom}
 use Rattle.chain.specs.Along.{along, rowsAlong}
 use Rattle.lists.proofs.Choice.{on, never, cond-holds}
-use Rattle.lists.proofs.Member.{Distinct, member-first, member-more, member-cases}
+use Rattle.lists.proofs.Member.{member-first, member-more, member-cases}
 use Rattle.chain.proofs.FuelEnough.{few}
 use Rattle.chain.proofs.WalkStep.{readThen, behind, step-holds}
 

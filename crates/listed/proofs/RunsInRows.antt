@@ -16,10 +16,11 @@ use lib.Dec.{ltb}
 use borrow.Author.Tests.{eq-eqb, ne-eqb, ltb-true, ltb-false}
 use Rattle.lists.specs.Alias.{Places}
 use Rattle.lists.specs.Member.{isMember}
+use Rattle.lists.specs.Distinct.{Distinct}
 use Rattle.lists.proofs.Choice.{on}
 use Rattle.lists.proofs.Each.{Each, each-at, each-append, each-of}
 use Rattle.lists.proofs.Nth.{map-at}
-use Rattle.lists.proofs.Member.{Distinct, member-first, member-more}
+use Rattle.lists.proofs.Member.{member-first, member-more}
 use Rattle.page.specs.declared.Row.{Row}
 use Rattle.page.specs.Found.{Rows, placeOf, places, noRow}
 use Rattle.chain.specs.Along.{along, rowsAlong}

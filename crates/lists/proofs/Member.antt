@@ -1,16 +1,18 @@
 -- Laws of `isMember`, and that numbers in 1..n-1 which differ from each other are at most n-1 (the pigeonhole).
 --     member-first, member-more, member-cases     a list with one number more
---     Distinct, distinct-few                      numbers that differ, and how many there can be
-use mathlib.Core.Path.{_≡_, refl, sym}
-use mathlib.Core.Bool.{true, false, cond}
-use mathlib.Core.List.{List, [], _∷_}
-use mathlib.Core.Logic.{_⊎_, inl, inr}
+--     append-cases, distinct-append               two lists, one behind the other
+--     distinct-few                                how many numbers that differ there can be
+use mathlib.Core.Path.{_≡_, refl, sym, _∙_}
+use mathlib.Core.Bool.{true, false, cond, false≢true}
+use mathlib.Core.List.{List, [], _∷_, _++_}
+use mathlib.Core.Logic.{_⊎_, inl, inr, ⊎-elim}
 use Prim.Native.Nat.{ℕ, zero, suc, _+_, _-_, _<_, _≤_}
 use native.Mathlib.Omega.{arith}
 use lib.ListN.{length}
 use lib.Dec.{eqb}
 use borrow.Author.Tests.{eq-eqb, ne-eqb, eqb-true, eqb-false}
 use Rattle.lists.specs.Member.{isMember}
+use Rattle.lists.specs.Distinct.{Distinct}
 use Rattle.lists.proofs.Choice.{on, or-right}
 
 pub member-first : (x : ℕ) (xs : List ℕ) → isMember x (x ∷ xs) ≡ true
@@ -29,10 +31,21 @@ member-other : (x y : ℕ) (ys : List ℕ) → (x ≡ y → ⊥) → isMember x 
 unfolding isMember
 member-other x y ys h = rw (ne-eqb x y h)
 
--- each differs from those behind it
-abbrev pub Distinct : List ℕ → Type 0
-Distinct [] = Unit {0}
-Distinct (x ∷ xs) = (isMember x xs ≡ false) × Distinct xs
+pub append-cases : (x : ℕ) (xs ys : List ℕ) → isMember x (xs ++ ys) ≡ true → (isMember x xs ≡ true) ⊎ (isMember x ys ≡ true)
+append-cases x [] ys e = inr e
+append-cases x (y ∷ xs) ys e =
+    ⊎-elim (λ q. inl (rw q (member-first y xs)))
+    (λ m. ⊎-elim (λ l. inl (member-more x y xs l)) (λ r. inr r) (append-cases x xs ys m)) (member-cases x y (xs ++ ys) e)
+
+-- two lists of numbers that differ, and with no number in both
+pub distinct-append : (xs ys : List ℕ) → Distinct xs → Distinct ys → ((x : ℕ) → isMember x xs ≡ true → isMember x ys ≡ false) → Distinct (xs ++ ys)
+distinct-append [] ys d e apart = e
+distinct-append (x ∷ xs) ys d e apart = (
+  on (isMember x (xs ++ ys))
+      (λ m. absurd (⊎-elim (λ l. false≢true (sym (d .0) ∙ l)) (λ r. false≢true (sym (apart x (member-first x xs)) ∙ r)) (append-cases x xs ys m)))
+      (λ f. f),
+  distinct-append xs ys (d .1) e (λ y m. apart y (member-more y x xs m)),
+)
 
 -- how many of the numbers below n are members
 membersBelow : ℕ → List ℕ → ℕ

@@ -3,4 +3,5 @@ pub mod Any
 pub mod Write
 pub mod Nth
 pub mod Member
+pub mod Distinct
 pub mod Subslice

@@ -50,7 +50,7 @@ module _ (len : ℕ) (before : Memory) (passed : Accepted len (before .image) (b
   still-sound : (more : List Call) → Sound len (runMemory len before more)
   still-sound more = run-sound len before passed more
 
-  more-later : (later : List Call) → MoreBlocks len (runMemory len before calls) (runMemory len before (calls ++ later))
+  pub more-later : (later : List Call) → MoreBlocks len (runMemory len before calls) (runMemory len before (calls ++ later))
   more-later later =
       holds-more at-end (received-later len calls later) (run-holds len before passed (calls ++ later))
 

@@ -1,0 +1,137 @@
+-- The pages walked over any page layer (specs/Pages).
+--     WalkedPage, each-walked     what is known of each: a link may name it, it was not met before, it is held and was read without a fault
+--     walked-distinct         they differ from each other
+--     reads-walked            a page that the walk reads without a fault is one of them
+--     from-counted            a walk that is not refused carries their number
+-- Rests on the steps of the walk (chain: WalkStep).
+use mathlib.Core.Path.{_≡_, refl, sym, _∙_}
+use mathlib.Core.Bool.{true, false, cond, not, _&&_, _||_, false≢true}
+use mathlib.Core.List.{List, [], _∷_}
+use Prim.Native.Nat.{ℕ, zero, suc}
+use native.Mathlib.Omega.{arith}
+use lib.ListN.{length}
+use lib.Dec.{eqb}
+use borrow.Author.Tests.{not-true, eqb-true}
+use Rattle.lists.specs.Member.{isMember}
+use Rattle.lists.specs.Distinct.{Distinct}
+use Rattle.refusal.specs.Answer.{Answer, given, refused}
+use Rattle.format.specs.Place.{linkable}
+use Rattle.page.specs.Found.{Rows}
+use Rattle.chain.specs.Walk.{Pages, Walk, full, waiting, inFront, walk, walkFrom}
+use Rattle.chain.specs.Reads.{isGiven, comesTo, goesOn, reads}
+use Rattle.disjoint.specs.Pages.{passes, walked, walkedFrom}
+use Rattle.lists.proofs.Choice.{on, never, cond-holds, both-true}
+use Rattle.lists.proofs.Member.{member-first, member-more}
+use Rattle.lists.proofs.Each.{Each, each-of, each-member}
+use Rattle.chain.proofs.WalkStep.{readThen, behind, step-holds}
+
+pub record WalkedPage (pages : Pages) (met : List ℕ) (page : ℕ) : Type 0 where
+  pub inside : linkable (pages .pageCount) page ≡ true
+  pub new : isMember page met ≡ false
+  pub held : pages .held page ≡ true
+  pub good : isGiven (pages .read page) ≡ true
+
+-- the number that a walk carries, if it is not refused, is the length of the list
+abbrev pub Counted : Walk Rows → List ℕ → Type 0
+Counted (given (full rows n)) list = n ≡ length list
+Counted (given (waiting page rows n)) list = n ≡ length list
+Counted (refused f) list = Unit {0}
+
+counted-front : (rows : Rows) (w : Walk Rows) (page : ℕ) (list : List ℕ) → Counted w list → Counted (inFront rows w) (page ∷ list)
+counted-front rows (given (full rest n)) page list e = omega arith
+counted-front rows (given (waiting at rest n)) page list e = omega arith
+counted-front rows (refused f) page list e = tt
+
+module _ (pages : Pages) where
+  walked-here : (met : List ℕ) (page : ℕ) → passes pages met page ≡ true → WalkedPage pages met page
+  unfolding passes comesTo
+  walked-here met page e =
+      let new = not (isMember page met) in
+      let parts = both-true (comesTo pages met page) (isGiven (pages .read page)) e in
+      let come = both-true (linkable (pages .pageCount) page) (new && pages .held page) (parts .0) in
+      let rest = both-true new (pages .held page) (come .1) in
+      record { inside = come .0; new = not-true (isMember page met) (rest .0); held = rest .1; good = parts .1 }
+
+  walked-behind : (met : List ℕ) (page q : ℕ) → WalkedPage pages (page ∷ met) q → WalkedPage pages met q
+  walked-behind met page q w =
+      record {
+        inside = w .inside;
+        new = on (isMember q met) (λ t. absurd (false≢true (sym (w .new) ∙ member-more q page met t))) (λ f. f);
+        held = w .held;
+        good = w .good;
+      }
+
+  pub each-walked : (fuel : ℕ) (met : List ℕ) (page : ℕ) → Each (WalkedPage pages met) (walked pages fuel met page)
+  unfolding walked
+  each-walked zero met page = tt
+  each-walked (suc fuel) met page =
+      let rest = walked pages fuel (page ∷ met) (pages .next page) in
+      cond-holds (Each (WalkedPage pages met)) (passes pages met page)
+      (λ p. (
+        walked-here met page p,
+        cond-holds (Each (WalkedPage pages met)) (pages .isLast page) (λ _. tt)
+            (λ _. each-of (WalkedPage pages (page ∷ met)) (WalkedPage pages met) rest (walked-behind met page) (each-walked fuel (page ∷ met) (pages .next page))),
+      ))
+      (λ _. tt)
+
+  pub walked-distinct : (fuel : ℕ) (met : List ℕ) (page : ℕ) → Distinct (walked pages fuel met page)
+  unfolding walked isMember
+  walked-distinct zero met page = tt
+  walked-distinct (suc fuel) met page =
+      let rest = walked pages fuel (page ∷ met) (pages .next page) in
+      let each = each-walked fuel (page ∷ met) (pages .next page) in
+      cond-holds Distinct (passes pages met page)
+      (λ _. cond-holds (λ (l : List ℕ). Distinct (page ∷ l)) (pages .isLast page) (λ _. (refl, tt))
+      (λ _. (
+        on (isMember page rest)
+            (λ t. absurd (false≢true (sym (each-member (WalkedPage pages (page ∷ met)) rest page each t .new) ∙ member-first page met)))
+            (λ f. f),
+        walked-distinct fuel (page ∷ met) (pages .next page),
+      )))
+      (λ _. tt)
+
+  pub reads-walked : (fuel : ℕ) (met : List ℕ) (page q : ℕ) → reads pages fuel met page q ≡ true → isGiven (pages .read q) ≡ true
+      → isMember q (walked pages fuel met page) ≡ true
+  unfolding reads walked passes goesOn
+  reads-walked zero met page q e g = never (cc)
+  reads-walked (suc fuel) met page q e g =
+      let later = reads pages fuel (page ∷ met) (pages .next page) q in
+      let parts = both-true (comesTo pages met page) (eqb q page || (goesOn pages page && later)) e in
+      on (eqb q page)
+      (λ t. let same = eqb-true q page t in rw (same, parts .0, rw same at g) (member-first page _))
+      (λ f. let behind = both-true (goesOn pages page) later (rw f at (parts .1)) in
+      let goes = both-true (isGiven (pages .read page)) (not (pages .isLast page)) (behind .0) in
+      rw (parts .0, goes .0, not-true (pages .isLast page) (goes .1))
+      (member-more q page (walked pages fuel (page ∷ met) (pages .next page)) (reads-walked fuel (page ∷ met) (pages .next page) q (behind .1) g)))
+
+  module _ (fuel : ℕ) (met : List ℕ) (holder page : ℕ) where
+    none-missing : linkable (pages .pageCount) page ≡ true → isMember page met ≡ false → pages .held page ≡ false → walked pages (suc fuel) met page ≡ []
+    unfolding walked passes comesTo
+    none-missing i m h = rw (i, m, h)
+
+    -- the pages walked behind this one
+    abbrev rest : List ℕ
+    rest = cond (pages .isLast page) [] (walked pages fuel (page ∷ met) (pages .next page))
+
+    more-read : (rows : Rows) → linkable (pages .pageCount) page ≡ true → isMember page met ≡ false → pages .held page ≡ true → pages .read page ≡ given rows
+        → walked pages (suc fuel) met page ≡ page ∷ rest
+    unfolding walked passes comesTo
+    more-read rows i m h e = rw (i, m, h, e)
+
+    counted-read : (r : Answer Rows) → pages .read page ≡ r → linkable (pages .pageCount) page ≡ true → isMember page met ≡ false → pages .held page ≡ true
+        → Counted (behind pages fuel met holder page) rest → Counted (readThen r (behind pages fuel met holder page)) (walked pages (suc fuel) met page)
+    counted-read (given rows) e i m h c = rw (more-read rows i m h e) (counted-front rows (behind pages fuel met holder page) page rest c)
+    counted-read (refused f) e i m h c = tt
+
+  walk-counted : (fuel : ℕ) (met : List ℕ) (holder page : ℕ) → Counted (walk pages fuel met holder page) (walked pages fuel met page)
+  unfolding walk behind
+  walk-counted zero met holder page = tt
+  walk-counted (suc fuel) met holder page =
+      step-holds pages fuel met holder page (λ (w : Walk Rows). Counted w (walked pages (suc fuel) met page))
+      (λ _. tt) tt (λ i m h. rw (none-missing fuel met holder page i m h) refl)
+      (λ i m h. counted-read fuel met holder page (pages .read page) refl i m h
+      (on (pages .isLast page) (λ l. rw l refl) (λ l. rw l (walk-counted fuel (page ∷ met) page (pages .next page)))))
+
+  pub from-counted : (first : ℕ) → Counted (walkFrom pages first) (walkedFrom pages first)
+  unfolding walkFrom walkedFrom
+  from-counted first = walk-counted (suc (pages .pageCount)) [] 0 first
