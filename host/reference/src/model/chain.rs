@@ -12,9 +12,17 @@ use super::{Refusal, Table, BLOCK_SIZE};
 #[derive(Default)]
 pub(super) struct Walked {
     pub rows: u64,
-    pub pages: u64,
+    /// The pages walked, in the order of the chain.
+    pub pages: Vec<u32>,
     /// The page waited for; `None` is Full.
     pub waiting: Option<u32>,
+}
+
+impl Walked {
+    /// How many pages were walked.
+    pub fn page_count(&self) -> u64 {
+        self.pages.len() as u64
+    }
 }
 
 /// Walks the chain of `table` and calls `visit` for each row with its number.
@@ -47,7 +55,7 @@ pub(super) fn walk(
             visit(walked.rows, row);
             walked.rows += 1;
         })?;
-        walked.pages += 1;
+        walked.pages.push(number);
         if number == pointer.last_page {
             return Ok(walked);
         }

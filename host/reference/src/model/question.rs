@@ -93,14 +93,16 @@ pub(super) fn rows(source: &impl Source, table: u32, list: &mut [u32]) -> Result
     Ok(walked.into())
 }
 
+/// The pages that the question for all rows walks. Its answer carries their number.
+pub(super) fn pages_walked(source: &impl Source, table: u32) -> Result<Vec<u32>, Refusal> {
+    let table = asked_table(table)?;
+    walk(source, table, |_, _| {}).map(|walked| walked.pages)
+}
+
 impl From<Walked> for Rows {
     fn from(walked: Walked) -> Self {
-        let Walked {
-            rows,
-            pages,
-            waiting,
-        } = walked;
-        match waiting {
+        let (rows, pages) = (walked.rows, walked.page_count());
+        match walked.waiting {
             None => Rows::Full { rows, pages },
             Some(page) => Rows::Waiting { page, rows, pages },
         }
@@ -178,16 +180,13 @@ fn search<T>(
     read: impl Fn(&Row) -> Option<T>,
 ) -> Result<Search<T>, Refusal> {
     let mut found = None;
-    let Walked {
-        rows,
-        pages,
-        waiting,
-    } = walk(source, table, |number, row| {
+    let walked = walk(source, table, |number, row| {
         if number == k {
             found = read(row);
         }
     })?;
-    match (found, waiting) {
+    let (rows, pages) = (walked.rows, walked.page_count());
+    match (found, walked.waiting) {
         (Some(found), _) => Ok(Search::Found(found)),
         (None, Some(page)) => Ok(Search::Waiting { page, rows, pages }),
         (None, None) => Err(Refusal::plain(18)),

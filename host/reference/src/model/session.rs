@@ -328,6 +328,31 @@ impl Session {
         contents::for_each_row(self, table.into(), visit)
     }
 
+    /// The pages that a walk of a table reads without a fault, in the order of
+    /// its chain (rule 4.5). The answer of [`Session::rows`] carries their number.
+    ///
+    /// # Errors
+    ///
+    /// Refusals 1 to 4, 8 to 16 and 25.
+    ///
+    /// ```
+    /// # use sarvoltig_reference::{generate, model::{Rows, Session}};
+    /// # let file = generate::demo();
+    /// # let mut session = Session::new(file.clone(), vec![0; 8]);
+    /// # session.open(file.len() as u64)?;
+    /// # for (block, piece) in (0..).zip(file.chunks(512)) {
+    /// #     session.deliver(block, piece)?;
+    /// # }
+    /// assert_eq!(session.pages_walked(2u8)?, [15, 16]);
+    /// let rows = session.rows(2u8, &mut [0; 100])?;
+    /// assert!(matches!(rows, Rows::Full { pages: 2, .. }));
+    /// # Ok::<(), sarvoltig_reference::model::Refusal>(())
+    /// ```
+    pub fn pages_walked(&self, table: impl Into<u32>) -> Result<Vec<u32>, Refusal> {
+        self.check_intake()?;
+        question::pages_walked(self, table.into())
+    }
+
     /// Rules 2.1 to 2.3; gives B.
     fn check_sizes(&self, len: u64) -> Result<u64, Refusal> {
         let blocks = block_count(len)?;

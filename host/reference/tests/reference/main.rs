@@ -9,6 +9,7 @@ mod generated;
 mod lines;
 mod listed;
 mod packets;
+mod pages;
 mod refusals;
 mod runs;
 
