@@ -15,8 +15,8 @@ use Rattle.format.specs.Place.{linkable}
 use Rattle.page.specs.Found.{Rows}
 use Rattle.chain.specs.Walk.{Pages, Walk, full, waiting, inFront, walk, walkFrom}
 use Rattle.chain.specs.Along.{along, rowsAlong}
-use Rattle.lists.proofs.Choice.{on, never, cond-holds}
-use Rattle.lists.proofs.Member.{member-first, member-more, member-cases}
+use Rattle.lists.proofs.Choice.{never, cond-holds}
+use Rattle.lists.proofs.Member.{member-first, member-cases, no-member, fewer-members}
 use Rattle.chain.proofs.FuelEnough.{few}
 use Rattle.chain.proofs.WalkStep.{readThen, behind, step-holds}
 
@@ -43,7 +43,7 @@ module _ (pages : Pages) where
   module _ (met : List ℕ) (page : ℕ) (i : linkable (pages .pageCount) page ≡ true) (m : isMember page met ≡ false) (h : pages .held page ≡ true) where
     met-later : (q : ℕ) → isMember q (page ∷ met) ≡ false → (isMember q met ≡ false) × (q ≡ page → ⊥)
     met-later q e = (
-      on (isMember q met) (λ t. absurd (false≢true (sym e ∙ member-more q page met t))) (λ f. f),
+      fewer-members q page met e,
       λ s. false≢true (sym e ∙ rw s (member-first page met)),
     )
 
@@ -53,7 +53,7 @@ module _ (pages : Pages) where
     passed-more rows rest n e p =
         rw (add-one n)
         record {
-          distinct = (on (isMember page behindIt) (λ t. absurd (met-later page (p .new page t) .1 refl)) (λ f. f), p .distinct);
+          distinct = (no-member page behindIt (λ t. met-later page (p .new page t) .1 refl), p .distinct);
           new = λ q t. ⊎-elim (λ s. rw s m) (λ s. met-later q (p .new q s) .0) (member-cases q page behindIt t);
           inside = λ q t. ⊎-elim (λ s. rw s i) (λ s. p .inside q s) (member-cases q page behindIt t);
           held = λ q t. ⊎-elim (λ s. rw s h) (λ s. p .held q s) (member-cases q page behindIt t);

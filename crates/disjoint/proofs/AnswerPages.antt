@@ -17,7 +17,6 @@ use Rattle.page.specs.declared.Row.{Row}
 use Rattle.page.specs.Found.{Rows, noRow}
 use Rattle.intake.specs.Memory.{Memory}
 use Rattle.chain.specs.Walk.{Walk, full, waiting}
-use Rattle.chain.specs.Found as found
 use Rattle.chain.specs.Found.{Found}
 use Rattle.table_walk.specs.Asked.{askedTable}
 use Rattle.table_walk.specs.Walk.{pageSize, tableWalk}
@@ -42,7 +41,7 @@ rows-carried list n (given (waiting page rows pages)) =
     cond-holds (Carries pagesInWalk n (given (waiting page rows pages))) (ltb (length list) (length rows)) (λ _ e. never (cc)) (λ _ e. e)
 rows-carried list n (refused f) = λ e. e
 
--- what is asked of a row does not wait
+-- `a` answers for a row that is found, and carries no number
 row-carried : {A : Type 0} (a : Row → Answer (Found A)) → ((row : Row) → pagesInFound (a row) ≡ none) → (k n : ℕ) (w : Walk Rows)
     → Carries pagesInFound n w (settleRow a k w)
 row-carried a finds k n (given (full rows pages)) =

@@ -1,6 +1,6 @@
--- The theorem of specs/Disjoint, and its corollary over runs.
--- A page belongs to the table whose number its type is. Walks read no page of another table (proofs/TablePages), so lists of different tables have no
--- page in common; in a run a page that is held keeps its type (table_walk: SameBlocks).
+-- The theorems of specs/Disjoint.
+-- The pages walked for a table have its number as their type (proofs/TablePages), so those of different tables differ; in a run a page that is held keeps
+-- its bytes and so its type (table_walk: SameBlocks).
 use mathlib.Core.Path.{_≡_, refl, sym, ap, _∙_}
 use mathlib.Core.Bool.{true, false≢true}
 use mathlib.Core.List.{List, [], _++_}
@@ -25,20 +25,20 @@ use Rattle.run.specs.Refusal.{tableAsked}
 use Rattle.run.specs.Run.{runMemory}
 use Rattle.disjoint.specs.Pages.{pagesWalked}
 use Rattle.disjoint.specs.Carried.{pagesInWalk, pagesInReply}
-use Rattle.disjoint.specs.Disjoint.{Disjoint, TablesDisjoint, EveryState, EveryRun}
+use Rattle.disjoint.specs.Disjoint.{Disjoint, TablesDisjoint, EveryState, EveryRunDisjoint}
 use Rattle.table.proofs.TableNumber.{table-number, same-number}
 use Rattle.intake.proofs.OpenClears.{opening-accepted}
 use Rattle.table_walk.proofs.SameBlocks.{MoreBlocks, part-same, first-same}
 use Rattle.run.proofs.RunHolds.{run-sound}
 use Rattle.run.proofs.Demand.{more-later}
-use Rattle.disjoint.proofs.TablePages.{PageOwned, page-owned, pages-distinct, rows-walked, pages-counted}
+use Rattle.disjoint.proofs.TablePages.{TablePage, table-page, pages-distinct, pages-read, rows-walked, pages-counted}
 use Rattle.disjoint.proofs.AnswerPages.{answer-pages}
-use Rattle.disjoint.proofs.Owned.{owned-few}
+use Rattle.disjoint.proofs.PageSums.{sum-few}
 
--- each page walked for a table has an owner, the table's number
-module _ (len : ℕ) (state : ℕ → Memory) (count : ℕ) (owner : ℕ → ℕ)
-    (owned : (t : Table) (page : ℕ) → isMember page (pagesWalked len (state (tableNumber t)) t) ≡ true
-    → (owner page ≡ tableNumber t) × (linkable count page ≡ true)) where
+-- where each page has a type, which is the table's number on the pages walked for it
+module _ (len : ℕ) (state : ℕ → Memory) (count : ℕ) (typeOf : ℕ → ℕ)
+    (typed : (t : Table) (page : ℕ) → isMember page (pagesWalked len (state (tableNumber t)) t) ≡ true
+    → (typeOf page ≡ tableNumber t) × (linkable count page ≡ true)) where
   abbrev tablePages : Table → List ℕ
   tablePages t = pagesWalked len (state (tableNumber t)) t
 
@@ -47,9 +47,9 @@ module _ (len : ℕ) (state : ℕ → Memory) (count : ℕ) (owner : ℕ → ℕ
       record {
         counted = counted;
         different = different;
-        apart = λ a b page l r. same-number a b (sym (owned a page l .0) ∙ owned b page r .0);
+        apart = λ a b page l r. same-number a b (sym (typed a page l .0) ∙ typed b page r .0);
         rows = λ t. rows-walked len (state (tableNumber t)) t;
-        sum = owned-few tablePages (λ (t : Table). pagesInWalk (tableWalk len (state (tableNumber t)) t)) counted tableNumber owner count different owned;
+        sum = sum-few tablePages (λ (t : Table). pagesInWalk (tableWalk len (state (tableNumber t)) t)) counted tableNumber typeOf count different typed;
       }
     where
       counted : (t : Table) (n : ℕ) → pagesInWalk (tableWalk len (state (tableNumber t)) t) ≡ some n → n ≡ length (tablePages t)
@@ -59,36 +59,40 @@ module _ (len : ℕ) (state : ℕ → Memory) (count : ℕ) (owner : ℕ → ℕ
       different t = pages-distinct len (state (tableNumber t)) t
 
   -- the pages walked for the table of a number, if it names one
-  abbrev pagesFor : (number : ℕ) → Answer Table → List ℕ
-  pagesFor number (given t) = pagesWalked len (state number) t
-  pagesFor number (refused f) = []
+  abbrev numberPages : (number : ℕ) → Answer Table → List ℕ
+  numberPages number (given t) = pagesWalked len (state number) t
+  numberPages number (refused f) = []
 
   abbrev questionPages : Question → List ℕ
-  questionPages q = pagesFor (tableAsked q) (tableOf (tableAsked q))
+  questionPages q = numberPages (tableAsked q) (tableOf (tableAsked q))
 
-  for-distinct : (number : ℕ) (a : Answer Table) → Distinct (pagesFor number a)
-  for-distinct number (given t) = pages-distinct len (state number) t
-  for-distinct number (refused f) = tt
+  number-distinct : (number : ℕ) (a : Answer Table) → Distinct (numberPages number a)
+  number-distinct number (given t) = pages-distinct len (state number) t
+  number-distinct number (refused f) = tt
 
-  for-owned : (number : ℕ) (a : Answer Table) → tableOf number ≡ a → (page : ℕ) → isMember page (pagesFor number a) ≡ true
-      → (owner page ≡ number) × (linkable count page ≡ true)
+  number-typed : (number : ℕ) (a : Answer Table) → tableOf number ≡ a → (page : ℕ) → isMember page (numberPages number a) ≡ true
+      → (typeOf page ≡ number) × (linkable count page ≡ true)
   unfolding isMember
-  for-owned number (given t) e page m = let same = table-number number t e in rw same (owned t page (rw same at m))
-  for-owned number (refused f) e page m = absurd (false≢true m)
+  number-typed number (given t) e page m = let same = table-number number t e in rw same (typed t page (rw same at m))
+  number-typed number (refused f) e page m = absurd (false≢true m)
+
+  question-counted : (q : Question) (n : ℕ) → pagesInReply (answer len (state (tableAsked q)) q) ≡ some n
+      → (t : Table) × (tableOf (tableAsked q) ≡ given t) × (n ≡ length (pagesWalked len (state (tableAsked q)) t))
+  question-counted q n e =
+      let asked = answer-pages len (state (tableAsked q)) q n e in
+      (asked .table, asked .named, pages-counted len (state (tableAsked q)) (asked .table) n (asked .carried))
 
   pub disjoint : TablesDisjoint len state count
   disjoint =
       record {
+        read = λ t. pages-read len (state (tableNumber t)) t;
         walks = walks-disjoint;
-        counted = λ q n e.
-            let asked = answer-pages len (state (tableAsked q)) q n e in
-            (asked .table, asked .named, pages-counted len (state (tableAsked q)) (asked .table) n (asked .carried));
+        counted = question-counted;
         sum =
-            owned-few questionPages (λ (q : Question). pagesInReply (answer len (state (tableAsked q)) q))
-            (λ q n e. let asked = answer-pages len (state (tableAsked q)) q n e in
-            rw (asked .named) (pages-counted len (state (tableAsked q)) (asked .table) n (asked .carried)))
-            tableAsked owner count (λ q. for-distinct (tableAsked q) (tableOf (tableAsked q)))
-            (λ q page m. for-owned (tableAsked q) (tableOf (tableAsked q)) refl page m);
+            sum-few questionPages (λ (q : Question). pagesInReply (answer len (state (tableAsked q)) q))
+            (λ q n e. let counted = question-counted q n e in rw (counted .1) (counted .2))
+            tableAsked typeOf count (λ q. number-distinct (tableAsked q) (tableOf (tableAsked q)))
+            (λ q page m. number-typed (tableAsked q) (tableOf (tableAsked q)) refl page m);
       }
 
 -- the type of a page, as the image has it
@@ -97,16 +101,16 @@ pageType m page = type (pagePart (pageSize m) (m .image) page)
 
 pub tables-disjoint : EveryState
 tables-disjoint len m =
-    disjoint len (λ _. m) (len / pageSize m) (pageType m) (λ t page e. let o = page-owned len m t page e in (o .typed, o .later))
+    disjoint len (λ _. m) (len / pageSize m) (pageType m) (λ t page e. let o = table-page len m t page e in (o .typed, o .linked))
 
--- with more blocks held, a page that was walked has its type
+-- with more blocks held, a page that was walked keeps its type
 module _ {len : ℕ} {a b : Memory} (more : MoreBlocks len a b) (soundA : Sound len a) (soundB : Sound len b) where
-  still-owned : (t : Table) (page : ℕ) → PageOwned len a t page → (pageType b page ≡ tableNumber t) × (linkable (len / pageSize b) page ≡ true)
-  still-owned t page o =
+  type-kept : (t : Table) (page : ℕ) → TablePage len a t page → (pageType b page ≡ tableNumber t) × (linkable (len / pageSize b) page ≡ true)
+  type-kept t page o =
       let size : pageSize a ≡ pageSize b = ap len-page (first-same more soundA soundB (o .first)) in
-      (rw (← size, ← part-same more soundA soundB (o .inside) (o .held)) (o .typed), rw (← size) (o .later))
+      (rw (← size, ← part-same more soundA soundB (o .inside) (o .held)) (o .typed), rw (← size) (o .linked))
 
-pub runs-disjoint : EveryRun
+pub runs-disjoint : EveryRunDisjoint
 unfolding Begins
 runs-disjoint len before e calls =
     let passed = opening-accepted len (before .image) (before .map) e in
@@ -120,6 +124,6 @@ runs-disjoint len before e calls =
           let rest = drop (length (place n)) calls in
           let whole : place n ++ rest ≡ calls = ap (λ (l : List Call). l ++ rest) (sym (begins n)) ∙ take-append-drop (length (place n)) calls in
           let more : MoreBlocks len (runMemory len before (place n)) end = rw whole at (more-later len before passed (place n) rest) in
-          still-owned more (run-sound len before passed (place n)) (run-sound len before passed calls) t page
-          (page-owned len (runMemory len before (place n)) t page m));
+          type-kept more (run-sound len before passed (place n)) (run-sound len before passed calls) t page
+          (table-page len (runMemory len before (place n)) t page m));
     }

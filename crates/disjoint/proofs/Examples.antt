@@ -34,15 +34,15 @@ use Rattle.table_walk.specs.Walk.{tableWalk}
 use Rattle.export.specs.Rows.{askRows}
 use Rattle.export.specs.Record.{askRecord}
 use Rattle.export.specs.Text.{askText}
-use Rattle.disjoint.specs.Readings.{Reading, untyped, typedFirst}
+use Rattle.disjoint.specs.Layers.{Layer, untyped, typedFirst}
 use Rattle.disjoint.specs.Pages.{passes, walked, walkedFrom, pagesBy}
 use Rattle.disjoint.specs.Disjoint.{Disjoint}
-use Rattle.disjoint.specs.Examples.{crossed, walkBy, Examples}
+use Rattle.disjoint.specs.Examples.{shared, walkBy, Examples}
 
 -- a page for two tables
-not-disjoint : (by : Reading) → isMember 2 (pagesBy by 2048 crossed Genres) ≡ true → isMember 2 (pagesBy by 2048 crossed Artists) ≡ true
-    → Disjoint (walkBy by 2048 crossed) (pagesBy by 2048 crossed) 4 → ⊥
-not-disjoint by g a d =
+not-disjoint : (layer : Layer) → isMember 2 (pagesBy layer 2048 shared Genres) ≡ true → isMember 2 (pagesBy layer 2048 shared Artists) ≡ true
+    → Disjoint (walkBy layer 2048 shared) (pagesBy layer 2048 shared) 4 → ⊥
+not-disjoint layer g a d =
     let one : _≡_ {A = ℕ} 1 2 = ap tableNumber (d .apart Genres Artists 2 g a) in
     omega arith
 
@@ -63,13 +63,14 @@ examples =
       waitsBehind = refl;
       answers = refl;
       answersWaiting = refl;
-      crossing = refl;
+      waitsForShared = refl;
       refusal = refl;
       before = refl;
       untypedWalk = refl;
       untypedShares = refl;
       typedFirstWalk = refl;
       typedFirstShares = refl;
+      untypedSum = refl;
       notUntyped = not-disjoint untyped refl refl;
       notTypedFirst = not-disjoint typedFirst refl refl;
       same = λ len m table. refl;

@@ -1,17 +1,17 @@
 -- The pages walked over any page layer (specs/Pages).
 --     WalkedPage, each-walked     what is known of each: a link may name it, it was not met before, it is held and was read without a fault
---     walked-distinct         they differ from each other
---     reads-walked            a page that the walk reads without a fault is one of them
---     from-counted            a walk that is not refused carries their number
+--     walked-distinct             they differ from each other
+--     walked-read                 they are the pages that the walk reads without a fault
+--     Counted, from-counted       a walk that is not refused carries their number
 -- Rests on the steps of the walk (chain: WalkStep).
 use mathlib.Core.Path.{_≡_, refl, sym, _∙_}
-use mathlib.Core.Bool.{true, false, cond, not, _&&_, _||_, false≢true}
+use mathlib.Core.Bool.{Bool, true, false, cond, not, _&&_, false≢true}
 use mathlib.Core.List.{List, [], _∷_}
 use Prim.Native.Nat.{ℕ, zero, suc}
 use native.Mathlib.Omega.{arith}
 use lib.ListN.{length}
 use lib.Dec.{eqb}
-use borrow.Author.Tests.{not-true, eqb-true}
+use borrow.Author.Tests.{not-true, eq-eqb, eqb-true}
 use Rattle.lists.specs.Member.{isMember}
 use Rattle.lists.specs.Distinct.{Distinct}
 use Rattle.refusal.specs.Answer.{Answer, given, refused}
@@ -20,8 +20,8 @@ use Rattle.page.specs.Found.{Rows}
 use Rattle.chain.specs.Walk.{Pages, Walk, full, waiting, inFront, walk, walkFrom}
 use Rattle.chain.specs.Reads.{isGiven, comesTo, goesOn, reads}
 use Rattle.disjoint.specs.Pages.{passes, walked, walkedFrom}
-use Rattle.lists.proofs.Choice.{on, never, cond-holds, both-true}
-use Rattle.lists.proofs.Member.{member-first, member-more}
+use Rattle.lists.proofs.Choice.{on, cond-holds, both-true}
+use Rattle.lists.proofs.Member.{member-first, no-member, fewer-members}
 use Rattle.lists.proofs.Each.{Each, each-of, each-member}
 use Rattle.chain.proofs.WalkStep.{readThen, behind, step-holds}
 
@@ -43,20 +43,20 @@ counted-front rows (given (waiting at rest n)) page list e = omega arith
 counted-front rows (refused f) page list e = tt
 
 module _ (pages : Pages) where
-  walked-here : (met : List ℕ) (page : ℕ) → passes pages met page ≡ true → WalkedPage pages met page
+  passes-walked : (met : List ℕ) (page : ℕ) → passes pages met page ≡ true → WalkedPage pages met page
   unfolding passes comesTo
-  walked-here met page e =
+  passes-walked met page e =
       let new = not (isMember page met) in
       let parts = both-true (comesTo pages met page) (isGiven (pages .read page)) e in
       let come = both-true (linkable (pages .pageCount) page) (new && pages .held page) (parts .0) in
       let rest = both-true new (pages .held page) (come .1) in
       record { inside = come .0; new = not-true (isMember page met) (rest .0); held = rest .1; good = parts .1 }
 
-  walked-behind : (met : List ℕ) (page q : ℕ) → WalkedPage pages (page ∷ met) q → WalkedPage pages met q
-  walked-behind met page q w =
+  met-fewer : (met : List ℕ) (page q : ℕ) → WalkedPage pages (page ∷ met) q → WalkedPage pages met q
+  met-fewer met page q w =
       record {
         inside = w .inside;
-        new = on (isMember q met) (λ t. absurd (false≢true (sym (w .new) ∙ member-more q page met t))) (λ f. f);
+        new = fewer-members q page met (w .new);
         held = w .held;
         good = w .good;
       }
@@ -68,9 +68,9 @@ module _ (pages : Pages) where
       let rest = walked pages fuel (page ∷ met) (pages .next page) in
       cond-holds (Each (WalkedPage pages met)) (passes pages met page)
       (λ p. (
-        walked-here met page p,
+        passes-walked met page p,
         cond-holds (Each (WalkedPage pages met)) (pages .isLast page) (λ _. tt)
-            (λ _. each-of (WalkedPage pages (page ∷ met)) (WalkedPage pages met) rest (walked-behind met page) (each-walked fuel (page ∷ met) (pages .next page))),
+            (λ _. each-of (WalkedPage pages (page ∷ met)) (WalkedPage pages met) rest (met-fewer met page) (each-walked fuel (page ∷ met) (pages .next page))),
       ))
       (λ _. tt)
 
@@ -83,26 +83,41 @@ module _ (pages : Pages) where
       cond-holds Distinct (passes pages met page)
       (λ _. cond-holds (λ (l : List ℕ). Distinct (page ∷ l)) (pages .isLast page) (λ _. (refl, tt))
       (λ _. (
-        on (isMember page rest)
-            (λ t. absurd (false≢true (sym (each-member (WalkedPage pages (page ∷ met)) rest page each t .new) ∙ member-first page met)))
-            (λ f. f),
+        no-member page rest (λ t. false≢true (sym (each-member (WalkedPage pages (page ∷ met)) rest page each t .new) ∙ member-first page met)),
         walked-distinct fuel (page ∷ met) (pages .next page),
       )))
       (λ _. tt)
 
-  pub reads-walked : (fuel : ℕ) (met : List ℕ) (page q : ℕ) → reads pages fuel met page q ≡ true → isGiven (pages .read q) ≡ true
-      → isMember q (walked pages fuel met page) ≡ true
-  unfolding reads walked passes goesOn
-  reads-walked zero met page q e g = never (cc)
-  reads-walked (suc fuel) met page q e g =
-      let later = reads pages fuel (page ∷ met) (pages .next page) q in
-      let parts = both-true (comesTo pages met page) (eqb q page || (goesOn pages page && later)) e in
-      on (eqb q page)
-      (λ t. let same = eqb-true q page t in rw (same, parts .0, rw same at g) (member-first page _))
-      (λ f. let behind = both-true (goesOn pages page) later (rw f at (parts .1)) in
-      let goes = both-true (isGiven (pages .read page)) (not (pages .isLast page)) (behind .0) in
-      rw (parts .0, goes .0, not-true (pages .isLast page) (goes .1))
-      (member-more q page (walked pages fuel (page ∷ met) (pages .next page)) (reads-walked fuel (page ∷ met) (pages .next page) q (behind .1) g)))
+  -- at the page itself, and behind it
+  module _ (fuel : ℕ) (met : List ℕ) (page q : ℕ) (come : comesTo pages met page ≡ true) where
+    abbrev later : List ℕ
+    later = walked pages fuel (page ∷ met) (pages .next page)
+
+    abbrev readsLater : Bool
+    readsLater = reads pages fuel (page ∷ met) (pages .next page) q
+
+    read-itself : q ≡ page → isMember q (walked pages (suc fuel) met page) ≡ (reads pages (suc fuel) met page q && isGiven (pages .read q))
+    unfolding reads walked passes isMember
+    read-itself e =
+        on (isGiven (pages .read page)) (λ g. rw (e, come, g, eq-eqb page page refl)) (λ g. rw (e, come, g, eq-eqb page page refl))
+
+    read-later : eqb q page ≡ false → isMember q later ≡ (readsLater && isGiven (pages .read q))
+        → isMember q (walked pages (suc fuel) met page) ≡ (reads pages (suc fuel) met page q && isGiven (pages .read q))
+    unfolding reads walked passes goesOn isMember
+    read-later e rest =
+        on (isGiven (pages .read page))
+        (λ g. on (pages .isLast page) (λ l. rw (come, g, l, e)) (λ l. rw (come, g, l, e) rest))
+        (λ g. rw (come, g, e))
+
+  pub walked-read : (fuel : ℕ) (met : List ℕ) (page q : ℕ)
+      → isMember q (walked pages fuel met page) ≡ (reads pages fuel met page q && isGiven (pages .read q))
+  unfolding reads walked passes isMember
+  walked-read zero met page q = refl
+  walked-read (suc fuel) met page q =
+      on (comesTo pages met page)
+      (λ c. on (eqb q page) (λ e. read-itself fuel met page q c (eqb-true q page e))
+      (λ e. read-later fuel met page q c e (walked-read fuel (page ∷ met) (pages .next page) q)))
+      (λ c. rw c)
 
   module _ (fuel : ℕ) (met : List ℕ) (holder page : ℕ) where
     none-missing : linkable (pages .pageCount) page ≡ true → isMember page met ≡ false → pages .held page ≡ false → walked pages (suc fuel) met page ≡ []

@@ -26,7 +26,7 @@ pagesInReply (call.rows o) = pagesInWalk (o .answer)
 pagesInReply (call.row a) = pagesInFound a
 pagesInReply (call.text a) = pagesInFound a
 
--- these numbers added up
+-- the numbers that there are, added up
 abbrev pub total : List (Option ℕ) → ℕ
 total [] = 0
 total (none ∷ rest) = total rest

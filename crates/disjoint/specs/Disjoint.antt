@@ -1,21 +1,25 @@
--- Rule 4.20: tables never share a page, one statement about every state (`EveryState`); and rule 8.18, its corollary over runs (`EveryRun`).
--- Where block 0 is not held, or the header is broken (9), no page is walked; so it needs no premise about either.
+-- Rule 4.20: tables never share a page, one statement about every state (`EveryState`); and rule 8.18, the same over runs (`EveryRunDisjoint`).
+-- Where block 0 is not held, or the header is broken (9), there is no P, and no page is walked; so it needs no premise about either.
 use mathlib.Core.Path.{_≡_}
-use mathlib.Core.Bool.{true}
+use mathlib.Core.Bool.{true, _&&_}
 use mathlib.Core.List.{List, map}
 use mathlib.Core.Option.{some}
 use Prim.Native.Nat.{ℕ, _-_, _/_, _<_, _≤_}
 use lib.ListN.{length, getD}
 use Rattle.lists.specs.Member.{isMember}
 use Rattle.lists.specs.Distinct.{Distinct}
-use Rattle.refusal.specs.Answer.{given}
+use Rattle.refusal.specs.Answer.{Answer, given}
 use Rattle.table.specs.declared.Table.{Table}
 use Rattle.table.specs.Table.{tableNumber, tableOf}
 use Rattle.page.specs.Found.{Rows, noRow}
+use Rattle.page.specs.Read.{readPage}
 use Rattle.intake.specs.Memory.{Memory}
 use Rattle.chain.specs.Begins.{Begins}
 use Rattle.chain.specs.Walk.{Walk}
+use Rattle.chain.specs.File.{pagePart}
+use Rattle.chain.specs.Reads.{isGiven}
 use Rattle.table_walk.specs.Walk.{pageSize, tableWalk}
+use Rattle.table_walk.specs.Reads.{tableReads}
 use Rattle.export.specs.Rows.{rowsFound}
 use Rattle.run.specs.Call.{Question, Call, answer}
 use Rattle.run.specs.Refusal.{tableAsked}
@@ -36,8 +40,15 @@ pub record Disjoint (walk : Table → Walk Rows) (pages : Table → List ℕ) (p
   -- the numbers that walks for different tables carry add up to at most P-1; a refused walk carries none
   pub sum : (tables : List Table) → Distinct (map tableNumber tables) → total (map (λ (t : Table). pagesInWalk (walk t)) tables) ≤ pageCount - 1
 
--- the walks for the ten tables, and the three questions on them; `state` has image and map at the questions on a table, by its number
+-- what reading a page of the file gives, for a table
+abbrev pub readFile : (m : Memory) (t : Table) (page : ℕ) → Answer Rows
+readFile m t page = readPage page t (pagePart (pageSize m) (m .image) page)
+
+-- the walks for the ten tables, and the three questions on them; `state n` is the memory in which table n is asked for
 pub record TablesDisjoint (len : ℕ) (state : (table : ℕ) → Memory) (pageCount : ℕ) : Type 0 where
+  -- a page is walked for a table exactly when its walk reads the page (rule 7.3) without a fault
+  pub read : (t : Table) (page : ℕ) → isMember page (pagesWalked len (state (tableNumber t)) t)
+      ≡ (tableReads len (state (tableNumber t)) t page && isGiven (readFile (state (tableNumber t)) t page))
   pub walks : Disjoint (λ (t : Table). tableWalk len (state (tableNumber t)) t) (λ (t : Table). pagesWalked len (state (tableNumber t)) t) pageCount
   -- the number that an answer carries is how many pages were walked for the table asked for
   pub counted : (q : Question) (n : ℕ) → pagesInReply (answer len (state (tableAsked q)) q) ≡ some n
@@ -50,13 +61,13 @@ pub record TablesDisjoint (len : ℕ) (state : (table : ℕ) → Memory) (pageCo
 abbrev pub EveryState : Type 0
 EveryState = (len : ℕ) (m : Memory) → TablesDisjoint len (λ _. m) (len / pageSize m)
 
--- Rule 8.18
+-- Rule 8.18, for a run of these calls
 pub record RunDisjoint (len : ℕ) (before : Memory) (calls : List Call) : Type 0 where
-  -- in the state behind these calls
+  -- in the state that they leave
   pub here : TablesDisjoint len (λ _. runMemory len before calls) (len / pageSize (runMemory len before calls))
-  -- with the questions on each table at a place of its own, behind the first calls of these
+  -- with each table asked for at a place of its own, after some first part of these calls
   pub anywhere : (place : (table : ℕ) → List Call) → ((table : ℕ) → Begins (place table) calls)
       → TablesDisjoint len (λ (table : ℕ). runMemory len before (place table)) (len / pageSize (runMemory len before calls))
 
-abbrev pub EveryRun : Type 0
-EveryRun = (len : ℕ) (before : Memory) → Opens len before → (calls : List Call) → RunDisjoint len before calls
+abbrev pub EveryRunDisjoint : Type 0
+EveryRunDisjoint = (len : ℕ) (before : Memory) → Opens len before → (calls : List Call) → RunDisjoint len before calls

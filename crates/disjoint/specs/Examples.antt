@@ -19,7 +19,7 @@ use Rattle.directory.specs.Chain.{tableChain}
 use Rattle.chain.specs.Walk.{Walk, full, waiting, walkFrom}
 use Rattle.table_walk.specs.Walk.{tableWalk}
 use Rattle.run.specs.Call.{Question, allRows, oneRecord, oneText, answer}
-use Rattle.disjoint.specs.Readings.{Reading, untyped, typedFirst, reading}
+use Rattle.disjoint.specs.Layers.{Layer, untyped, typedFirst, fileLayer}
 use Rattle.disjoint.specs.Pages.{pagesBy, pagesWalked}
 use Rattle.disjoint.specs.Carried.{pagesInWalk, pagesInReply, total}
 use Rattle.disjoint.specs.Disjoint.{Disjoint}
@@ -59,18 +59,18 @@ good = memory (file 3) (15 ∷ [])
 abbrev pub goodWithoutTwo : Memory
 goodWithoutTwo = memory (file 3) (11 ∷ [])
 
--- their chain leads from page 3 to page 2
-abbrev pub crossed : Memory
-crossed = memory (file 2) (15 ∷ [])
+-- the artists' chain leads from page 3 to page 2
+abbrev pub shared : Memory
+shared = memory (file 2) (15 ∷ [])
 
-abbrev pub crossedWithoutTwo : Memory
-crossedWithoutTwo = memory (file 2) (11 ∷ [])
+abbrev pub sharedWithoutTwo : Memory
+sharedWithoutTwo = memory (file 2) (11 ∷ [])
 
--- the walk for a table by a reading
-unfoldable pub walkBy : (by : Reading) (len : ℕ) (m : Memory) (table : Table) → Walk Rows
-walkBy by len m table =
+-- the walk for a table over a page layer
+unfoldable pub walkBy : (layer : Layer) (len : ℕ) (m : Memory) (table : Table) → Walk Rows
+walkBy layer len m table =
     cond (bit (m .map) 0)
-    (andThen (tableChain len (blockAt (m .image) 0) table) (λ c. walkFrom (by c table (m .image) (m .map)) (c .«first_page»)))
+    (andThen (tableChain len (blockAt (m .image) 0) table) (λ c. walkFrom (layer c table (m .image) (m .map)) (c .«first_page»)))
     (given (waiting 0 [] 0))
 
 -- the numbers that the walks for these tables carry, added up
@@ -78,8 +78,8 @@ abbrev pub sumOf : Memory → List Table → ℕ
 sumOf m tables = total (map (λ (t : Table). pagesInWalk (tableWalk 2048 m t)) tables)
 
 -- the pages walked for genres and for artists
-abbrev pub bothBy : (by : Reading) (m : Memory) → List (List ℕ)
-bothBy by m = map (pagesBy by 2048 m) (Genres ∷ Artists ∷ [])
+abbrev pub bothBy : (layer : Layer) (m : Memory) → List (List ℕ)
+bothBy layer m = map (pagesBy layer 2048 m) (Genres ∷ Artists ∷ [])
 
 -- the numbers that answers carry
 abbrev pub numbersIn : Memory → List Question → List (Option ℕ)
@@ -94,24 +94,25 @@ pub record Examples : Type 0 where
   pub twice : sumOf good (Genres ∷ Artists ∷ Genres ∷ []) ≡ 5
   -- where page 2 is missing, genres wait for it behind page 1
   pub waits : tableWalk 2048 goodWithoutTwo Genres ≡ given (waiting 2 [] 1)
-  pub waitsBehind : bothBy reading goodWithoutTwo ≡ (1 ∷ []) ∷ ((3 ∷ []) ∷ [])
+  pub waitsBehind : bothBy fileLayer goodWithoutTwo ≡ (1 ∷ []) ∷ ((3 ∷ []) ∷ [])
   -- what answers carry: all rows with a list that is long enough, and with one that is not (17); a record that is found, and one that is not (18);
   -- a table that is not one of the ten (8)
   pub answers : numbersIn good (allRows 1 (0 ∷ []) ∷ allRows 1 [] ∷ oneRecord 1 0 ∷ oneRecord 1 1 ∷ allRows 9 [] ∷ [])
       ≡ some 2 ∷ (none ∷ (none ∷ (none ∷ (none ∷ []))))
   -- and what those carry that wait
   pub answersWaiting : numbersIn goodWithoutTwo (allRows 1 [] ∷ oneRecord 1 0 ∷ oneText 1 0 0 ∷ []) ≡ some 1 ∷ (some 1 ∷ (some 1 ∷ []))
-  -- a chain that leads to a page of another table waits for it, and is then refused by 25; its pages before are its own
-  pub crossing : tableWalk 2048 crossedWithoutTwo Artists ≡ given (waiting 2 [] 1)
-  pub refusal : tableWalk 2048 crossed Artists ≡ refused (fault 25 2)
-  pub before : bothBy reading crossed ≡ (1 ∷ 2 ∷ []) ∷ ((3 ∷ []) ∷ [])
+  -- a walk that comes to a page of another table waits for it, and is refused by 25 when it is held; the pages before it are walked
+  pub waitsForShared : tableWalk 2048 sharedWithoutTwo Artists ≡ given (waiting 2 [] 1)
+  pub refusal : tableWalk 2048 shared Artists ≡ refused (fault 25 2)
+  pub before : bothBy fileLayer shared ≡ (1 ∷ 2 ∷ []) ∷ ((3 ∷ []) ∷ [])
   -- both misreadings walk page 2 for genres and for artists, and find the genre among the artists
-  pub untypedWalk : walkBy untyped 2048 crossed Artists ≡ given (full (genre ∷ []) 2)
-  pub untypedShares : bothBy untyped crossed ≡ (1 ∷ 2 ∷ []) ∷ ((3 ∷ 2 ∷ []) ∷ [])
-  pub typedFirstWalk : walkBy typedFirst 2048 crossed Artists ≡ given (full (genre ∷ []) 2)
-  pub typedFirstShares : bothBy typedFirst crossed ≡ (1 ∷ 2 ∷ []) ∷ ((3 ∷ 2 ∷ []) ∷ [])
-  -- so the statement is false for them
-  pub notUntyped : Disjoint (walkBy untyped 2048 crossed) (pagesBy untyped 2048 crossed) 4 → ⊥
-  pub notTypedFirst : Disjoint (walkBy typedFirst 2048 crossed) (pagesBy typedFirst 2048 crossed) 4 → ⊥
-  -- they differ from the walk for a table in the reading alone
-  pub same : (len : ℕ) (m : Memory) (table : Table) → walkBy reading len m table ≡ tableWalk len m table
+  pub untypedWalk : walkBy untyped 2048 shared Artists ≡ given (full (genre ∷ []) 2)
+  pub untypedShares : bothBy untyped shared ≡ (1 ∷ 2 ∷ []) ∷ ((3 ∷ 2 ∷ []) ∷ [])
+  pub typedFirstWalk : walkBy typedFirst 2048 shared Artists ≡ given (full (genre ∷ []) 2)
+  pub typedFirstShares : bothBy typedFirst shared ≡ (1 ∷ 2 ∷ []) ∷ ((3 ∷ 2 ∷ []) ∷ [])
+  -- so their numbers add up to more than P-1, and the statement is false for them
+  pub untypedSum : total (map (λ (t : Table). pagesInWalk (walkBy untyped 2048 shared t)) (Genres ∷ Artists ∷ [])) ≡ 4
+  pub notUntyped : Disjoint (walkBy untyped 2048 shared) (pagesBy untyped 2048 shared) 4 → ⊥
+  pub notTypedFirst : Disjoint (walkBy typedFirst 2048 shared) (pagesBy typedFirst 2048 shared) 4 → ⊥
+  -- their layers alone make them differ from the walk for a table
+  pub same : (len : ℕ) (m : Memory) (table : Table) → walkBy fileLayer len m table ≡ tableWalk len m table

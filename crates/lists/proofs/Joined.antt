@@ -8,8 +8,8 @@ use mathlib.Core.Logic.{⊎-elim}
 use Prim.Native.Nat.{ℕ}
 use Rattle.lists.specs.Member.{isMember}
 use Rattle.lists.specs.Distinct.{Distinct}
-use Rattle.lists.proofs.Choice.{on, never}
-use Rattle.lists.proofs.Member.{member-first, member-more, append-cases, distinct-append}
+use Rattle.lists.proofs.Choice.{never}
+use Rattle.lists.proofs.Member.{member-first, no-member, fewer-members, append-cases, distinct-append}
 
 module _ {X : Type 0} (list : X → List ℕ) where
   abbrev pub joined : List X → List ℕ
@@ -31,11 +31,11 @@ module _ {X : Type 0} (list : X → List ℕ) where
         let keys = map key xs in
         ⊎-elim
         (λ l. false≢true (sym f ∙ rw (apart x y n m l) (member-first (key y) keys)))
-        (λ r. elsewhere x xs (on (isMember (key x) keys) (λ t. absurd (false≢true (sym f ∙ member-more (key x) (key y) keys t))) (λ g. g)) n m r)
+        (λ r. elsewhere x xs (fewer-members (key x) (key y) keys f) n m r)
         (append-cases n (list y) (joined xs) e)
 
     pub joined-distinct : (xs : List X) → Distinct (map key xs) → Distinct (joined xs)
     joined-distinct [] d = tt
     joined-distinct (x ∷ xs) d =
         distinct-append (list x) (joined xs) (different x) (joined-distinct xs (d .1))
-        (λ n m. on (isMember n (joined xs)) (λ e. absurd (elsewhere x xs (d .0) n m e)) (λ f. f))
+        (λ n m. no-member n (joined xs) (elsewhere x xs (d .0) n m))

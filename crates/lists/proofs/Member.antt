@@ -1,5 +1,6 @@
 -- Laws of `isMember`, and that numbers in 1..n-1 which differ from each other are at most n-1 (the pigeonhole).
 --     member-first, member-more, member-cases     a list with one number more
+--     no-member, fewer-members                    a number that is no member, and none of a shorter list
 --     append-cases, distinct-append               two lists, one behind the other
 --     distinct-few                                how many numbers that differ there can be
 use mathlib.Core.Path.{_≡_, refl, sym, _∙_}
@@ -27,6 +28,12 @@ pub member-cases : (x y : ℕ) (ys : List ℕ) → isMember x (y ∷ ys) ≡ tru
 unfolding isMember
 member-cases x y ys e = on (eqb x y) (λ f. inl (eqb-true x y f)) (λ f. inr (rw f at e))
 
+pub no-member : (x : ℕ) (xs : List ℕ) → (isMember x xs ≡ true → ⊥) → isMember x xs ≡ false
+no-member x xs h = on (isMember x xs) (λ t. absurd (h t)) (λ f. f)
+
+pub fewer-members : (x y : ℕ) (ys : List ℕ) → isMember x (y ∷ ys) ≡ false → isMember x ys ≡ false
+fewer-members x y ys e = no-member x ys (λ t. false≢true (sym e ∙ member-more x y ys t))
+
 member-other : (x y : ℕ) (ys : List ℕ) → (x ≡ y → ⊥) → isMember x (y ∷ ys) ≡ isMember x ys
 unfolding isMember
 member-other x y ys h = rw (ne-eqb x y h)
@@ -41,9 +48,8 @@ append-cases x (y ∷ xs) ys e =
 pub distinct-append : (xs ys : List ℕ) → Distinct xs → Distinct ys → ((x : ℕ) → isMember x xs ≡ true → isMember x ys ≡ false) → Distinct (xs ++ ys)
 distinct-append [] ys d e apart = e
 distinct-append (x ∷ xs) ys d e apart = (
-  on (isMember x (xs ++ ys))
-      (λ m. absurd (⊎-elim (λ l. false≢true (sym (d .0) ∙ l)) (λ r. false≢true (sym (apart x (member-first x xs)) ∙ r)) (append-cases x xs ys m)))
-      (λ f. f),
+  no-member x (xs ++ ys)
+      (λ m. ⊎-elim (λ l. false≢true (sym (d .0) ∙ l)) (λ r. false≢true (sym (apart x (member-first x xs)) ∙ r)) (append-cases x xs ys m)),
   distinct-append xs ys (d .1) e (λ y m. apart y (member-more y x xs m)),
 )
 
@@ -87,4 +93,4 @@ below-all n (x ∷ xs) d h =
 
 pub distinct-few : (n : ℕ) (xs : List ℕ) → Distinct xs → ((x : ℕ) → isMember x xs ≡ true → (1 ≤ x) × (x < n)) → length xs ≤ n - 1
 distinct-few n xs d h =
-    omega (arith, below-all n xs d h, below-few n xs (on (isMember 0 xs) (λ e. absurd (omega (arith, h 0 e .0))) (λ e. e)))
+    omega (arith, below-all n xs d h, below-few n xs (no-member 0 xs (λ e. omega (arith, h 0 e .0))))

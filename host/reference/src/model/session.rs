@@ -333,7 +333,7 @@ impl Session {
     ///
     /// # Errors
     ///
-    /// Refusals 1 to 4, 8 to 16 and 25.
+    /// Refusals 1 to 4, 8 to 16 and 25. The pages before a fault are not given.
     ///
     /// ```
     /// # use sarvoltig_reference::{generate, model::{Rows, Session}};

@@ -131,7 +131,7 @@ fn a_page_is_walked_for_the_table_of_its_type() {
 }
 
 #[test]
-fn a_walk_that_is_refused_has_no_pages() {
+fn a_refused_walk_gives_its_refusal() {
     let genres = |pages: &[Page]| asked(&whole(&file(&[[1, 1, 2]], pages)), 1);
     assert_eq!(genres(&[(1, 3, false), (1, 0, false)]), refused(11, 1));
     assert_eq!(genres(&[(1, 1, false), (1, 0, false)]), refused(16, 0));

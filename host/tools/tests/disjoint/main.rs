@@ -1,6 +1,7 @@
 //! Tables never share a page. In a state with block 0 held and a header that is not refused by 9, among the walks of the
 //! ten tables that are not refused: the pages of one walk are different, no page is walked for two tables, and the
-//! numbers of pages in the answers add up to at most P-1. The library answers, and the reference names the pages.
+//! numbers of pages in the answers add up to at most P-1. While a file arrives, a page that was walked for one table is
+//! walked for no other. The library answers, and the reference names the pages.
 
 mod files;
 mod walks;
@@ -10,8 +11,8 @@ use sarvoltig_reference::model::{RecordReply, Refusal, Rows, Session, Table, BLO
 use sarvoltig_reference::rng::Rng;
 use sarvoltig_reference::schedule::{Answer, Call, Reply, Run};
 use sarvoltig_tools::library::Library;
-use std::collections::BTreeMap;
-use walks::{breach, page_sum, Walk};
+use std::collections::{BTreeMap, HashMap};
+use walks::{breach, later_breach, page_sum, Walk};
 
 const FILES: u64 = 6_000;
 /// How often the ten tables are asked while the blocks of a file arrive, at most.
@@ -110,7 +111,10 @@ impl<'a> Arrival<'a> {
         for table in Table::ALL {
             match self.walk(table, rng) {
                 Ok(walk) => walks.push(walk),
-                Err(refusal) => refusals.push(refusal),
+                Err(refusal) => {
+                    assert_ne!(refusal.number, 17, "seed {}: the room is enough", self.seed);
+                    refusals.push(refusal);
+                }
             }
         }
         let is_header_refused = refusals.iter().any(|refusal| refusal.number == 9);
@@ -236,10 +240,16 @@ fn check_file(seed: u64, met: &mut Met) {
     let (file, meeting) = file(seed, rng);
     let blocks = blocks(&file, rng);
     let mut arrival = Arrival::open(seed, &file);
+    let mut walked_for = HashMap::new();
     for arriving in blocks.chunks(blocks.len().div_ceil(STATES)) {
         arriving.iter().for_each(|block| arrival.deliver(*block));
         if let Some(state) = arrival.state(meeting, rng) {
             assert_eq!(state.breach(), None, "seed {seed}");
+            assert_eq!(
+                later_breach(&state.walks, &mut walked_for),
+                None,
+                "seed {seed}"
+            );
             state.count(met);
         }
     }

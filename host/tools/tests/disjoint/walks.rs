@@ -41,6 +41,23 @@ pub fn breach(walks: &[Walk], len_page: u32, file_pages: u32) -> Option<String> 
     (sum >= u64::from(file_pages)).then(|| format!("{sum} pages are walked of {file_pages}"))
 }
 
+/// A page that is walked for another table than in an earlier state of the file, if there is one. Keeps for which table
+/// each page was walked first.
+pub fn later_breach(walks: &[Walk], walked_for: &mut HashMap<u32, Table>) -> Option<String> {
+    for walk in walks {
+        for page in &walk.pages {
+            let first = *walked_for.entry(*page).or_insert(walk.table);
+            if first != walk.table {
+                return Some(format!(
+                    "page {page}: first {first:?}, then {:?}",
+                    walk.table
+                ));
+            }
+        }
+    }
+    None
+}
+
 /// The numbers of pages in the library's answers, added up.
 pub fn page_sum(walks: &[Walk]) -> u64 {
     walks.iter().map(|walk| walk.page_count).sum()
@@ -72,6 +89,20 @@ fn walks_without_a_breach() {
     assert_eq!(breach_after(&[], &[], |_| {}), None);
     assert_eq!(breach_after(&[1, 2, 3], &[4], |_| {}), None);
     assert_eq!(breach_after(&[2], &[3, 1], |_| {}), None);
+}
+
+#[test]
+fn a_page_of_another_table_later() {
+    let mut walked_for = HashMap::new();
+    let mut later = |table, pages: &[u32]| later_breach(&[walk(table, pages)], &mut walked_for);
+    assert_eq!(later(Table::Genres, &[1]), None);
+    assert_eq!(later(Table::Genres, &[1, 2]), None);
+    assert_eq!(later(Table::Artists, &[3]), None);
+    let breach = later(Table::Artists, &[3, 2]);
+    assert_eq!(
+        breach.as_deref(),
+        Some("page 2: first Genres, then Artists")
+    );
 }
 
 #[test]
