@@ -1,5 +1,5 @@
 //! Tables never share a page. In a state with block 0 held and a header that is not refused by 9, among the walks of the
-//! ten tables that are not refused: the pages of one walk are different, no page is walked for two tables, and the
+//! ten tables that are not refused: a walk has each of its pages once, walks for two tables have none in common, and the
 //! numbers of pages in the answers add up to at most P-1. While a file arrives, a page that was walked for one table is
 //! walked for no other. The library answers, and the reference names the pages.
 
