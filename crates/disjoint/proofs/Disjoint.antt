@@ -28,7 +28,9 @@ use Rattle.disjoint.specs.Carried.{pagesInWalk, pagesInReply}
 use Rattle.disjoint.specs.Disjoint.{Disjoint, TablesDisjoint, EveryState, EveryRunDisjoint}
 use Rattle.table.proofs.TableNumber.{table-number, same-number}
 use Rattle.intake.proofs.OpenClears.{opening-accepted}
+use Rattle.chain.proofs.Linkable.{both-inside}
 use Rattle.table_walk.proofs.SameBlocks.{MoreBlocks, part-same, first-same}
+use Rattle.table_walk.proofs.PageWalked.{PageWalked}
 use Rattle.run.proofs.RunHolds.{run-sound}
 use Rattle.run.proofs.Demand.{more-later}
 use Rattle.disjoint.proofs.TablePages.{TablePage, table-page, pages-distinct, pages-read, rows-walked, pages-counted}
@@ -99,16 +101,21 @@ module _ (len : ℕ) (state : ℕ → Memory) (count : ℕ) (typeOf : ℕ → �
 abbrev pageType : (m : Memory) (page : ℕ) → ℕ
 pageType m page = type (pagePart (pageSize m) (m .image) page)
 
+-- a page that a walk reads is one that a link may name
+page-linked : {len : ℕ} {m : Memory} {page : ℕ} → PageWalked len m page → linkable (len / pageSize m) page ≡ true
+page-linked {len} {m} {page} p = both-inside (len / pageSize m) page (p .later) (p .inside .inside)
+
 pub tables-disjoint : EveryState
 tables-disjoint len m =
-    disjoint len (λ _. m) (len / pageSize m) (pageType m) (λ t page e. let o = table-page len m t page e in (o .typed, o .linked))
+    disjoint len (λ _. m) (len / pageSize m) (pageType m) (λ t page e. let p = table-page len m t page e in (p .typed, page-linked (p .walked)))
 
 -- with more blocks held, a page that was walked keeps its type
 module _ {len : ℕ} {a b : Memory} (more : MoreBlocks len a b) (soundA : Sound len a) (soundB : Sound len b) where
   type-kept : (t : Table) (page : ℕ) → TablePage len a t page → (pageType b page ≡ tableNumber t) × (linkable (len / pageSize b) page ≡ true)
-  type-kept t page o =
-      let size : pageSize a ≡ pageSize b = ap len-page (first-same more soundA soundB (o .first)) in
-      (rw (← size, ← part-same more soundA soundB (o .inside) (o .held)) (o .typed), rw (← size) (o .linked))
+  type-kept t page p =
+      let known = p .walked in
+      let size : pageSize a ≡ pageSize b = ap len-page (first-same more soundA soundB (known .first)) in
+      (rw (← size, ← part-same more soundA soundB (known .inside) (known .held)) (p .typed), rw (← size) (page-linked known))
 
 pub runs-disjoint : EveryRunDisjoint
 unfolding Begins

@@ -1,15 +1,15 @@
 -- The pages walked for a table of a file, from image and map (specs/Pages).
---     TablePage, table-page     each is a page of the file that a link may name, is held, and has the table's number as its type
---     pages-read                they are the pages that the walk for the table reads without a fault
 --     pages-distinct            they differ from each other
+--     pages-read                they are the pages that the walk for the table reads without a fault
+--     TablePage, table-page     each has the table's number as its type
 --     rows-walked               each row found is on one of them
 --     pages-counted             the walk for the table carries their number, if it is not refused
--- Rests on proofs/WalkedPages, on the chain of a table (directory: ChainAnswer) and on what reading a page tests (page: PageAnswer).
-use mathlib.Core.Path.{_≡_, refl, ap}
+-- Rests on proofs/WalkedPages, on the pages that the walk for a table reads (table_walk: PageWalked) and on what reading a page tests (page: PageAnswer).
+use mathlib.Core.Path.{_≡_, refl, sym, _∙_}
 use mathlib.Core.Bool.{true, _&&_, false≢true}
-use mathlib.Core.List.{List, []}
+use mathlib.Core.List.{[]}
 use mathlib.Core.Option.{some}
-use Prim.Native.Nat.{ℕ, suc, _/_, _<_}
+use Prim.Native.Nat.{ℕ, suc, _<_}
 use native.Mathlib.Omega.{arith}
 use lib.ListN.{length, getD}
 use borrow.Author.Tests.{eqb-true}
@@ -17,7 +17,6 @@ use Rattle.lists.specs.Alias.{Bytes}
 use Rattle.lists.specs.Member.{isMember}
 use Rattle.lists.specs.Distinct.{Distinct}
 use Rattle.refusal.specs.Answer.{Answer, given, refused}
-use Rattle.format.specs.Place.{linkable}
 use Rattle.table.specs.declared.Table.{Table}
 use Rattle.table.specs.Table.{tableNumber}
 use Rattle.page.specs.Header.{type, numberAgrees, typeAgrees}
@@ -29,7 +28,6 @@ use Rattle.intake.specs.Memory.{Memory, blockAt}
 use Rattle.directory.specs.declared.Chain.{Chain}
 use Rattle.directory.specs.Chain.{tableChain}
 use Rattle.chain.specs.Walk.{Walk, full, waiting}
-use Rattle.chain.specs.Held.{pageHeld}
 use Rattle.chain.specs.File.{pagePart}
 use Rattle.chain.specs.Reads.{isGiven, readsFrom}
 use Rattle.chain.specs.Chain.{chainWalk, chainReads}
@@ -39,16 +37,15 @@ use Rattle.export.specs.Rows.{rowsFound}
 use Rattle.disjoint.specs.Layers.{fileLayer}
 use Rattle.disjoint.specs.Pages.{walkedFrom, chainPages, pagesBy, pagesWalked}
 use Rattle.disjoint.specs.Carried.{pagesInWalk}
-use Rattle.disjoint.specs.Disjoint.{readFile}
+use Rattle.disjoint.specs.Disjoint.{readPageIn}
 use Rattle.lists.proofs.Choice.{on, never, cond-holds, both-true}
-use Rattle.lists.proofs.Each.{Each, each-at, each-every, each-of, each-member}
+use Rattle.lists.proofs.Each.{each-at, each-every}
 use Rattle.page.proofs.PageAnswer.{page-read, page-row}
-use Rattle.directory.proofs.ChainAnswer.{FileChain, chain-given}
-use Rattle.table_walk.proofs.SameBlocks.{InFile}
-use Rattle.table_walk.proofs.TableWalk.{table-walk-holds, in-file}
-use Rattle.table_walk.proofs.PageWalked.{reads-table}
+use Rattle.directory.proofs.ChainAnswer.{chain-given}
+use Rattle.table_walk.proofs.TableWalk.{table-walk-holds}
+use Rattle.table_walk.proofs.PageWalked.{PageWalked, reads-table, page-walked}
 use Rattle.table_walk.proofs.EachFound.{EachFound, found-each}
-use Rattle.disjoint.proofs.WalkedPages.{WalkedPage, each-walked, walked-distinct, walked-read, Counted, from-counted}
+use Rattle.disjoint.proofs.WalkedPages.{walked-distinct, walked-read, Counted, from-counted}
 
 -- a page that is read without a fault has the type of the table
 read-typed : (number : ℕ) (table : Table) (page : Bytes) (a : Answer Rows) → readPage number table page ≡ a → isGiven a ≡ true → type page ≡ tableNumber table
@@ -58,62 +55,38 @@ read-typed number table page (given rows) e g =
     (both-true (numberAgrees number page) (typeAgrees table page) (page-read number table page rows e .header) .1)
 read-typed number table page (refused f) e g = absurd (false≢true g)
 
+-- a page that the walk reads, with the table's number as its type
 pub record TablePage (len : ℕ) (m : Memory) (table : Table) (page : ℕ) : Type 0 where
-  pub first : bit (m .map) 0 ≡ true
-  pub inside : InFile len (pageSize m) page
-  pub linked : linkable (len / pageSize m) page ≡ true
-  pub held : pageHeld (pageSize m) (m .map) page ≡ true
+  pub walked : PageWalked len m page
   pub typed : type (pagePart (pageSize m) (m .image) page) ≡ tableNumber table
 
 module _ (len : ℕ) (m : Memory) (table : Table) where
-  -- what holds of the empty list, and of the pages walked along any chain of the file, holds of those walked for the table
-  table-pages-hold : (P : List ℕ → Type 0) → P []
-      → ((c : Chain) → bit (m .map) 0 ≡ true → FileChain len (blockAt (m .image) 0) c → P (walkedFrom (fileLayer c table (m .image) (m .map)) (c .«first_page»)))
-      → P (pagesWalked len m table)
-  unfolding pagesBy
-  table-pages-hold P none chain = cond-holds P (bit (m .map) 0) (λ b. by b (tableChain len (blockAt (m .image) 0) table) refl) (λ _. none)
-    where
-      by : bit (m .map) 0 ≡ true → (a : Answer Chain) → tableChain len (blockAt (m .image) 0) table ≡ a → P (chainPages fileLayer table m a)
-      by b (given c) q = chain c b (chain-given len (blockAt (m .image) 0) table c q)
-      by b (refused f) q = none
-
-  chain-page : (c : Chain) → bit (m .map) 0 ≡ true → FileChain len (blockAt (m .image) 0) c → (page : ℕ)
-      → WalkedPage (fileLayer c table (m .image) (m .map)) [] page → TablePage len m table page
-  chain-page c b f page w =
-      record {
-        first = b;
-        inside = rw (← f .linked .len-page) (in-file f (w .inside));
-        linked = rw (← f .linked .page-count) (w .inside);
-        held = rw (← f .linked .len-page) (w .held);
-        typed = rw (← f .linked .len-page)
-            (read-typed page table (pagePart (c .«len_page») (m .image) page) (readPage page table (pagePart (c .«len_page») (m .image) page)) refl (w .good));
-      }
-
-  pub table-page : (page : ℕ) → isMember page (pagesWalked len m table) ≡ true → TablePage len m table page
-  unfolding walkedFrom
-  table-page page e =
-      each-member (TablePage len m table) (pagesWalked len m table) page
-      (table-pages-hold (Each (TablePage len m table)) tt
-      (λ c b f. let pages = fileLayer c table (m .image) (m .map) in
-      each-of (WalkedPage pages []) (TablePage len m table) (walkedFrom pages (c .«first_page»)) (chain-page c b f)
-      (each-walked pages (suc (c .«page_count»)) [] (c .«first_page»))))
-      e
-
   pub pages-distinct : Distinct (pagesWalked len m table)
-  unfolding walkedFrom
-  pages-distinct =
-      table-pages-hold Distinct tt (λ c b f. walked-distinct (fileLayer c table (m .image) (m .map)) (suc (c .«page_count»)) [] (c .«first_page»))
+  unfolding pagesBy walkedFrom
+  pages-distinct = cond-holds Distinct (bit (m .map) 0) (λ _. by (tableChain len (blockAt (m .image) 0) table)) (λ _. tt)
+    where
+      by : (a : Answer Chain) → Distinct (chainPages fileLayer table m a)
+      by (given c) = walked-distinct (fileLayer c table (m .image) (m .map)) (suc (c .«page_count»)) [] (c .«first_page»)
+      by (refused f) = tt
 
-  pub pages-read : (page : ℕ) → isMember page (pagesWalked len m table) ≡ (tableReads len m table page && isGiven (readFile m table page))
+  pub pages-read : (page : ℕ) → isMember page (pagesWalked len m table) ≡ (tableReads len m table page && isGiven (readPageIn m table page))
   unfolding pagesBy tableReads isMember walkedFrom readsFrom
   pages-read page = on (bit (m .map) 0) (λ b. rw b (by (tableChain len (blockAt (m .image) 0) table) refl)) (λ b. rw b)
     where
       by : (a : Answer Chain) → tableChain len (blockAt (m .image) 0) table ≡ a
-          → isMember page (chainPages fileLayer table m a) ≡ (chainReads table (m .image) (m .map) a page && isGiven (readFile m table page))
+          → isMember page (chainPages fileLayer table m a) ≡ (chainReads table (m .image) (m .map) a page && isGiven (readPageIn m table page))
       by (given c) q =
           rw (← chain-given len (blockAt (m .image) 0) table c q .linked .len-page)
           (walked-read (fileLayer c table (m .image) (m .map)) (suc (c .«page_count»)) [] (c .«first_page») page)
       by (refused f) q = refl
+
+  pub table-page : (page : ℕ) → isMember page (pagesWalked len m table) ≡ true → TablePage len m table page
+  table-page page e =
+      let parts = both-true (tableReads len m table page) (isGiven (readPageIn m table page)) (sym (pages-read page) ∙ e) in
+      record {
+        walked = page-walked len m table page (parts .0);
+        typed = read-typed page table (pagePart (pageSize m) (m .image) page) (readPageIn m table page) refl (parts .1);
+      }
 
   -- a row is on a page walked
   abbrev OnPage : Row → Type 0

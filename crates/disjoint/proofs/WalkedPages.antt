@@ -1,8 +1,7 @@
 -- The pages walked over any page layer (specs/Pages).
---     WalkedPage, each-walked     what is known of each: a link may name it, it was not met before, it is held and was read without a fault
---     walked-distinct             they differ from each other
---     walked-read                 they are the pages that the walk reads without a fault
---     Counted, from-counted       a walk that is not refused carries their number
+--     walked-distinct           they differ from each other
+--     walked-read               they are the pages that the walk reads without a fault
+--     Counted, from-counted     a walk that is not refused carries their number
 -- Rests on the steps of the walk (chain: WalkStep).
 use mathlib.Core.Path.{_≡_, refl, sym, _∙_}
 use mathlib.Core.Bool.{Bool, true, false, cond, not, _&&_, false≢true}
@@ -25,12 +24,6 @@ use Rattle.lists.proofs.Member.{member-first, no-member, fewer-members}
 use Rattle.lists.proofs.Each.{Each, each-of, each-member}
 use Rattle.chain.proofs.WalkStep.{readThen, behind, step-holds}
 
-pub record WalkedPage (pages : Pages) (met : List ℕ) (page : ℕ) : Type 0 where
-  pub inside : linkable (pages .pageCount) page ≡ true
-  pub new : isMember page met ≡ false
-  pub held : pages .held page ≡ true
-  pub good : isGiven (pages .read page) ≡ true
-
 -- the number that a walk carries, if it is not refused, is the length of the list
 abbrev pub Counted : Walk Rows → List ℕ → Type 0
 Counted (given (full rows n)) list = n ≡ length list
@@ -43,34 +36,28 @@ counted-front rows (given (waiting at rest n)) page list e = omega arith
 counted-front rows (refused f) page list e = tt
 
 module _ (pages : Pages) where
-  passes-walked : (met : List ℕ) (page : ℕ) → passes pages met page ≡ true → WalkedPage pages met page
+  passes-new : (met : List ℕ) (page : ℕ) → passes pages met page ≡ true → isMember page met ≡ false
   unfolding passes comesTo
-  passes-walked met page e =
+  passes-new met page e =
       let new = not (isMember page met) in
-      let parts = both-true (comesTo pages met page) (isGiven (pages .read page)) e in
-      let come = both-true (linkable (pages .pageCount) page) (new && pages .held page) (parts .0) in
-      let rest = both-true new (pages .held page) (come .1) in
-      record { inside = come .0; new = not-true (isMember page met) (rest .0); held = rest .1; good = parts .1 }
+      let come = both-true (comesTo pages met page) (isGiven (pages .read page)) e .0 in
+      let rest = both-true (linkable (pages .pageCount) page) (new && pages .held page) come .1 in
+      not-true (isMember page met) (both-true new (pages .held page) rest .0)
 
-  met-fewer : (met : List ℕ) (page q : ℕ) → WalkedPage pages (page ∷ met) q → WalkedPage pages met q
-  met-fewer met page q w =
-      record {
-        inside = w .inside;
-        new = fewer-members q page met (w .new);
-        held = w .held;
-        good = w .good;
-      }
+  -- the page was not met before
+  abbrev New : List ℕ → ℕ → Type 0
+  New met page = isMember page met ≡ false
 
-  pub each-walked : (fuel : ℕ) (met : List ℕ) (page : ℕ) → Each (WalkedPage pages met) (walked pages fuel met page)
+  walked-new : (fuel : ℕ) (met : List ℕ) (page : ℕ) → Each (New met) (walked pages fuel met page)
   unfolding walked
-  each-walked zero met page = tt
-  each-walked (suc fuel) met page =
+  walked-new zero met page = tt
+  walked-new (suc fuel) met page =
       let rest = walked pages fuel (page ∷ met) (pages .next page) in
-      cond-holds (Each (WalkedPage pages met)) (passes pages met page)
+      cond-holds (Each (New met)) (passes pages met page)
       (λ p. (
-        passes-walked met page p,
-        cond-holds (Each (WalkedPage pages met)) (pages .isLast page) (λ _. tt)
-            (λ _. each-of (WalkedPage pages (page ∷ met)) (WalkedPage pages met) rest (met-fewer met page) (each-walked fuel (page ∷ met) (pages .next page))),
+        passes-new met page p,
+        cond-holds (Each (New met)) (pages .isLast page) (λ _. tt)
+            (λ _. each-of (New (page ∷ met)) (New met) rest (λ q. fewer-members q page met) (walked-new fuel (page ∷ met) (pages .next page))),
       ))
       (λ _. tt)
 
@@ -79,11 +66,11 @@ module _ (pages : Pages) where
   walked-distinct zero met page = tt
   walked-distinct (suc fuel) met page =
       let rest = walked pages fuel (page ∷ met) (pages .next page) in
-      let each = each-walked fuel (page ∷ met) (pages .next page) in
+      let new = walked-new fuel (page ∷ met) (pages .next page) in
       cond-holds Distinct (passes pages met page)
       (λ _. cond-holds (λ (l : List ℕ). Distinct (page ∷ l)) (pages .isLast page) (λ _. (refl, tt))
       (λ _. (
-        no-member page rest (λ t. false≢true (sym (each-member (WalkedPage pages (page ∷ met)) rest page each t .new) ∙ member-first page met)),
+        no-member page rest (λ t. false≢true (sym (each-member (New (page ∷ met)) rest page new t) ∙ member-first page met)),
         walked-distinct fuel (page ∷ met) (pages .next page),
       )))
       (λ _. tt)

@@ -40,15 +40,15 @@ pub record Disjoint (walk : Table → Walk Rows) (pages : Table → List ℕ) (p
   -- the numbers that walks for different tables carry add up to at most P-1; a refused walk carries none
   pub sum : (tables : List Table) → Distinct (map tableNumber tables) → total (map (λ (t : Table). pagesInWalk (walk t)) tables) ≤ pageCount - 1
 
--- what reading a page of the file gives, for a table
-abbrev pub readFile : (m : Memory) (t : Table) (page : ℕ) → Answer Rows
-readFile m t page = readPage page t (pagePart (pageSize m) (m .image) page)
+-- what reading a page gives, for a table
+abbrev pub readPageIn : (m : Memory) (t : Table) (page : ℕ) → Answer Rows
+readPageIn m t page = readPage page t (pagePart (pageSize m) (m .image) page)
 
 -- the walks for the ten tables, and the three questions on them; `state n` is the memory in which table n is asked for
 pub record TablesDisjoint (len : ℕ) (state : (table : ℕ) → Memory) (pageCount : ℕ) : Type 0 where
   -- a page is walked for a table exactly when its walk reads the page (rule 7.3) without a fault
   pub read : (t : Table) (page : ℕ) → isMember page (pagesWalked len (state (tableNumber t)) t)
-      ≡ (tableReads len (state (tableNumber t)) t page && isGiven (readFile (state (tableNumber t)) t page))
+      ≡ (tableReads len (state (tableNumber t)) t page && isGiven (readPageIn (state (tableNumber t)) t page))
   pub walks : Disjoint (λ (t : Table). tableWalk len (state (tableNumber t)) t) (λ (t : Table). pagesWalked len (state (tableNumber t)) t) pageCount
   -- the number that an answer carries is how many pages were walked for the table asked for
   pub counted : (q : Question) (n : ℕ) → pagesInReply (answer len (state (tableAsked q)) q) ≡ some n
