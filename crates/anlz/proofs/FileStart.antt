@@ -1,6 +1,7 @@
 -- Rules 14.2 and 14.3: where the sections start, and that a file of 2^32 bytes and more is refused (`long-refused`).
 use mathlib.Core.Path.{_≡_}
 use mathlib.Core.Bool.{true}
+use mathlib.Core.List.{List}
 use Prim.Native.Nat.{ℕ, _-_, _≤_}
 use native.Mathlib.Omega.{arith}
 use lib.ListN.{length}
@@ -10,12 +11,13 @@ use Rattle.lists.specs.Alias.{Bytes}
 use Rattle.lists.proofs.Choice.{on, never, both-true}
 use Rattle.number.proofs.Number.{be32-fits}
 use Rattle.refusal.specs.declared.Fault.{Fault}
-use Rattle.refusal.specs.Answer.{given, refused}
+use Rattle.refusal.specs.Answer.{Answer, given, refused, andThen}
+use Rattle.anlz.specs.declared.Section.{Section}
 use Rattle.anlz.specs.Header.{headerHolds, pmai, file-code, len-header, len-file}
 use Rattle.anlz.specs.Sections.{firstPlace, sections, sectionsFrom}
 use Rattle.anlz.specs.Long.{EveryLongFile}
 use Rattle.anlz.specs.First.{firstSection}
-use Rattle.anlz.specs.Private.{firstFrom}
+use Rattle.anlz.specs.Private.{madeFrom, firstFrom}
 
 -- what a header that holds says of the file
 pub record Headed (file : Bytes) : Type 0 where
@@ -52,17 +54,25 @@ module _ (file : Bytes) where
   unfolding sections
   sections-start e = rw (← e)
 
+  pub made-start : {A : Type 0} {place : ℕ} (rest : List Section → Answer A) → given place ≡ firstPlace file
+      → madeFrom file place rest ≡ andThen (sections file) rest
+  made-start rest e = rw (sections-start e)
+
   pub first-start : {place : ℕ} (code : ℕ) → given place ≡ firstPlace file → firstFrom file place code ≡ firstSection file code
   unfolding firstSection firstFrom
-  first-start code e = rw (sections-start e)
+  first-start code e = made-start _ e
 
   pub sections-refused : {f : Fault} → refused f ≡ firstPlace file → sections file ≡ refused f
   unfolding sections
   sections-refused e = rw (← e)
 
+  pub made-refused : {A : Type 0} {f : Fault} (rest : List Section → Answer A) → refused f ≡ firstPlace file
+      → refused f ≡ andThen (sections file) rest
+  made-refused rest e = rw (sections-refused e)
+
   pub first-refused : {f : Fault} (code : ℕ) → refused f ≡ firstPlace file → refused f ≡ firstSection file code
   unfolding firstSection
-  first-refused code e = rw (sections-refused e)
+  first-refused code e = made-refused _ e
 
 pub long-refused : EveryLongFile
 unfolding sections firstPlace

@@ -4,7 +4,8 @@
 --     NextSection                   what stands at a place: the end, a section whole inside the file, or a broken one
 --     StepsEnough                   the steps of the definition suffice
 --     FileFilled                     the sections fill the file
---     FirstLoop                     going through the sections for a code
+--     SectionsLoop                  going through the sections
+--     FirstLoop                     going through them for a code
 --     ElementAt                     an element of a list by its number
 --     SectionsAgree                 files that agree on the envelopes have the same sections
 pub mod HeaderTests
@@ -13,6 +14,7 @@ pub mod FileStart
 pub mod NextSection
 pub mod StepsEnough
 pub mod FileFilled
+pub mod SectionsLoop
 pub mod FirstLoop
 pub mod ElementAt
 pub mod SectionsAgree

@@ -1,19 +1,21 @@
 -- Rule 14.16: two files of one length that agree on the envelopes have the same sections (`sections-agree`), and so the same first
--- section with a code (`first-agree`). Rests on what stands at a place (StepsEnough) and on numbers that agree (crate number).
+-- section with a code (`first-agree`). Files that agree on bytes of a section have tags that do (`tag-bytes-agree`). Rests on what stands at a place (StepsEnough) and on numbers that agree (crate number).
 use mathlib.Core.Path.{_≡_, refl, sym, _∙_}
-use Prim.Native.Nat.{ℕ, zero, suc, _+_, _-_, _≤_}
+use mathlib.Core.Bool.{Bool, true}
+use Prim.Native.Nat.{ℕ, zero, suc, _+_, _-_, _<_, _≤_}
 use native.Mathlib.Omega.{arith}
 use lib.ListN.{length}
 use Rattle.lists.specs.Alias.{Bytes}
 use Rattle.lists.proofs.Choice.{on, or-left, or-right}
 use Rattle.number.specs.Number.{be32}
 use Rattle.number.specs.Agree.{Agree, within}
-use Rattle.number.proofs.NumberAgree.{within-less, agree-less, be32-agree}
+use Rattle.number.proofs.NumberAgree.{within-true, within-less, agree-less, be32-agree, part-agree}
+use Rattle.anlz.specs.declared.Section.{Section}
 use Rattle.anlz.specs.Header.{envelope, headerHolds, len-header}
-use Rattle.anlz.specs.Section.{sectionHolds, sectionAt, len-tag}
+use Rattle.anlz.specs.Section.{sectionHolds, sectionAt, len-tag, tagOf}
 use Rattle.anlz.specs.Sections.{sectionsFrom, firstPlace, sections}
 use Rattle.anlz.specs.First.{firstSection}
-use Rattle.anlz.specs.Bytes.{envelopeFrom, envelopeByte}
+use Rattle.anlz.specs.Bytes.{envelopeFrom, envelopeByte, inTag}
 use Rattle.anlz.proofs.StepsEnough.{at-place, from-end, from-broken, from-found}
 
 -- what an envelope says
@@ -70,3 +72,19 @@ module _ {s t : Bytes} (a : Agree (envelopeByte s) s t) where
   pub first-agree : (code : ℕ) → firstSection s code ≡ firstSection t code
   unfolding firstSection
   first-agree code = rw sections-agree
+
+pub tag-bytes-agree : (test : Bytes → ℕ → Bool) {s t : Bytes} (section : Section) → Agree (inTag test s section) s t
+    → Agree (test (tagOf s section)) (tagOf s section) (tagOf t section)
+unfolding inTag
+tag-bytes-agree test {s} section a = part-agree place size byte a
+  where
+    place : ℕ
+    place = section .place
+
+    size : ℕ
+    size = section .end - place
+
+    byte : (i : ℕ) → i < size → test (tagOf s section) i ≡ true → inTag test s section (place + i) ≡ true
+    byte i h e =
+        let back : i ≡ place + i - place = omega arith in
+        rw (within-true place size (place + i) (omega arith) (omega arith)) (rw back at e)

@@ -1,11 +1,12 @@
--- Rule 14.16: the bytes of an ANLZ file that its list of sections may depend on: the envelopes, 12 bytes each.
+-- Rule 14.16: the bytes of an ANLZ file that its list of sections may depend on: the envelopes, 12 bytes each. And the bytes of a section.
 use mathlib.Core.Bool.{Bool, false, _&&_, _||_}
 use Prim.Native.Nat.{ℕ, zero, suc, _+_, _-_}
 use lib.ListN.{length}
 use Rattle.lists.specs.Alias.{Bytes}
 use Rattle.number.specs.Agree.{within}
 use Rattle.anlz.specs.Header.{envelope, len-header, headerHolds}
-use Rattle.anlz.specs.Section.{len-tag, sectionHolds}
+use Rattle.anlz.specs.declared.Section.{Section}
+use Rattle.anlz.specs.Section.{len-tag, sectionHolds, tagOf}
 
 -- byte i stands in the envelope of a section from a place on, up to and with the first broken one
 -- (where the file ends, the 12 bytes are past it, and read as 0)
@@ -17,3 +18,7 @@ envelopeFrom (suc left) file place i =
 -- byte i stands in the envelope of the file or, where its header is not broken, of a section
 unfoldable pub envelopeByte : (file : Bytes) (i : ℕ) → Bool
 envelopeByte file i = within 0 envelope i || (headerHolds file && envelopeFrom (length file - len-header file) file (len-header file) i)
+
+-- byte i of the file stands in a section, and passes a test as a byte of its tag
+unfoldable pub inTag : (test : (tag : Bytes) (i : ℕ) → Bool) (file : Bytes) (section : Section) (i : ℕ) → Bool
+inTag test file section i = within (section .place) (section .end - section .place) i && test (tagOf file section) (i - section .place)

@@ -20,6 +20,10 @@ orElse (refused f) next = refused f
 abbrev pub ifCode : (code : ℕ) → Section → Option Section
 ifCode code section = cond (eqb (section .code) code) (some section) none
 
+-- what is made of the sections from a place on
+abbrev pub madeFrom : {A : Type 0} (file : Bytes) (place : ℕ) (rest : List Section → Answer A) → Answer A
+madeFrom file place rest = andThen (sectionsFrom (length file - place) file place) rest
+
 -- the first section with a code, from a place on
 unfoldable pub firstFrom : (file : Bytes) (place code : ℕ) → Answer (Option Section)
-firstFrom file place code = andThen (sectionsFrom (length file - place) file place) (λ (all : List Section). given (firstWith code all))
+firstFrom file place code = madeFrom file place (λ (all : List Section). given (firstWith code all))

@@ -24,6 +24,8 @@ pub enum AnlzRefusal {
     NoGrid,
     GridLength,
     BarPosition,
+    CueList,
+    Waveform,
 }
 
 impl AnlzRefusal {
@@ -37,6 +39,8 @@ impl AnlzRefusal {
             AnlzRefusal::NoGrid => 22,
             AnlzRefusal::GridLength => 23,
             AnlzRefusal::BarPosition => 24,
+            AnlzRefusal::CueList => 26,
+            AnlzRefusal::Waveform => 27,
         }
     }
 }

@@ -1,5 +1,3 @@
--- The beat grid: its section in the file (FileGrid), the bar positions one after the other (BarsLoop), and one beat among those of a
--- section (BeatAmong).
+-- The beat grid: its section in the file (FileGrid), and one beat among those of a section (BeatAmong).
 pub mod FileGrid
-pub mod BarsLoop
 pub mod BeatAmong

@@ -1,6 +1,5 @@
 -- Rules 14.11 and 14.12: a beat, the fields of its eight bytes in file order, and which bar positions there are.
-use mathlib.Core.Bool.{Bool, true, _&&_}
-use mathlib.Core.List.{List, [], _∷_}
+use mathlib.Core.Bool.{Bool, _&&_}
 use Prim.Native.Nat.{ℕ}
 use lib.Dec.{leb}
 use Rattle.lists.specs.Alias.{Bytes}
@@ -30,7 +29,5 @@ beatOf entry = record { «bar_position» = bar-position entry; tempo = tempo ent
 unfoldable pub barHolds : (bar-position : ℕ) → Bool
 barHolds n = leb 1 n && leb n 4
 
--- is true exactly when every beat has a bar position from 1 to 4
-unfoldable pub barsHold : List GridBeat → Bool
-barsHold [] = true
-barsHold (beat ∷ beats) = barHolds (beat .«bar_position») && barsHold beats
+abbrev pub beatHolds : (entry : Bytes) → Bool
+beatHolds entry = barHolds (bar-position entry)

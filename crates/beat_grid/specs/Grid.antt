@@ -12,8 +12,9 @@ use Rattle.anlz.specs.Header.{fourBytes}
 use Rattle.anlz.specs.Section.{tagOf}
 use Rattle.anlz.specs.First.{firstSection}
 use Rattle.entries.specs.Entries.{fills, entries}
+use Rattle.entries.specs.Every.{everyEntry}
 use Rattle.beat_grid.specs.declared.GridBeat.{GridBeat}
-use Rattle.beat_grid.specs.Beat.{beatSize, beatOf, barsHold}
+use Rattle.beat_grid.specs.Beat.{beatSize, beatOf, beatHolds}
 
 -- P, Q, T, Z
 abbrev pub pqtz : ℕ
@@ -22,15 +23,15 @@ pqtz = fourBytes 0x50 0x51 0x54 0x5a
 abbrev pub len-beats : Bytes → ℕ
 len-beats tag = be32 tag 0x14
 
-abbrev pub beatsIn : Bytes → List GridBeat
-beatsIn tag = map beatOf (entries beatSize (len-beats tag) tag)
+abbrev pub beatEntries : Bytes → List Bytes
+beatEntries tag = entries beatSize (len-beats tag) tag
 
 -- Rules 14.10 and 14.12, in this order: the beats of this section
 unfoldable pub gridIn : Bytes → Answer (List GridBeat)
 gridIn tag =
     refuseIf (not (fills beatSize (len-beats tag) tag)) (fault 23 0)
-    (refuseIf (not (barsHold (beatsIn tag))) (fault 24 0)
-    (given (beatsIn tag)))
+    (refuseIf (not (everyEntry beatHolds (beatEntries tag))) (fault 24 0)
+    (given (map beatOf (beatEntries tag))))
 
 -- Rule 14.8: 22 where there is none
 abbrev pub needed : Option Section → Answer Section

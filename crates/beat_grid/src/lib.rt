@@ -2,10 +2,12 @@
 ghost use mathlib.Core.Path.{_≡_};
 ghost use Rattle.refusal.specs.Answer.{andThen};
 ghost use Rattle.anlz.specs.Element.{elementAt};
-ghost use Rattle.beat_grid.specs.Beat.{beatOf, barHolds, barsHold};
+ghost use Rattle.entries.specs.Entries.{entries};
+ghost use Rattle.entries.specs.Every.{everyEntry};
+ghost use Rattle.beat_grid.specs.Beat.{beatSize, beatOf, barHolds, beatHolds};
 ghost use Rattle.beat_grid.specs.Grid.{gridIn, gridSection};
 ghost use Rattle.beat_grid.specs.Questions.{counted, askBeats, askBeat, beatsReplyOf, beatReplyOf};
-ghost use Rattle.beat_grid.specs.Private.{beatsFrom, gridReplyOf};
+ghost use Rattle.beat_grid.specs.Private.{gridReplyOf};
 use anlz::AnlzRefusal;
 use anlz::First;
 use anlz::Section;
@@ -66,7 +68,7 @@ fn bar_holds(bar_position: u16) -> bool
 
 // Whether each of so many beats has a bar position from 1 to 4.
 fn bars_hold(tag: &[u8], count: u32) -> bool
-    ensures { λ r. ⌜ r ≡ barsHold (beatsFrom (now (tag .entry)) count 0) ⌝ }
+    ensures { λ r. ⌜ r ≡ everyEntry beatHolds (entries beatSize count (now (tag .entry))) ⌝ }
 {
     let beats = Entries {
         width: GridBeat::SIZE,

@@ -7,14 +7,16 @@ use Rattle.anlz.specs.Header.{headerHolds}
 use Rattle.anlz.specs.Section.{sectionHolds}
 use Rattle.anlz.specs.Sections.{nextSection, sectionsFrom, firstPlace, sections}
 use Rattle.anlz.specs.First.{firstWith, firstSection}
-use Rattle.anlz.specs.Bytes.{envelopeFrom, envelopeByte}
+use Rattle.anlz.specs.Bytes.{envelopeFrom, envelopeByte, inTag}
 use Rattle.entries.specs.Entries.{fills, entriesFrom}
-use Rattle.beat_grid.specs.Beat.{barHolds, barsHold}
+use Rattle.entries.specs.Every.{everyEntry}
+use Rattle.entries.specs.Bytes.{inEntry, inEntries}
+use Rattle.beat_grid.specs.Beat.{barHolds}
 use Rattle.beat_grid.specs.Grid.{gridIn, gridSection}
-use Rattle.grid_depend.specs.Bytes.{barByte, countByte, beatByte, bothByte, inTag, relevant}
+use Rattle.grid_depend.specs.Bytes.{countByte, beatByte, bothByte, relevant}
 use Rattle.grid_depend.specs.Examples.{examples, ExamplesHold}
 
 pub examples-hold : ExamplesHold examples
 unfolding anyFrom be16 be32 within headerHolds sectionHolds nextSection sectionsFrom firstPlace sections firstWith firstSection
-    envelopeFrom envelopeByte fills entriesFrom barHolds barsHold gridIn gridSection barByte countByte beatByte bothByte inTag relevant
+    envelopeFrom envelopeByte inTag fills entriesFrom everyEntry inEntry inEntries barHolds gridIn gridSection countByte beatByte bothByte relevant
 examples-hold = refl

@@ -1,45 +1,28 @@
 -- Rules 14.17 and 14.18: where the bytes of a tag that pass a test decide an answer, so do the envelopes of a file and those bytes of its
 -- grid (`grid-agree`). Rests on the sections of files that agree on the envelopes (anlz/SectionsAgree).
 use mathlib.Core.Path.{_≡_, refl}
-use mathlib.Core.Bool.{Bool, true}
+use mathlib.Core.Bool.{Bool}
 use mathlib.Core.List.{List}
-use Prim.Native.Nat.{ℕ, _+_, _-_, _<_}
-use native.Mathlib.Omega.{arith}
+use Prim.Native.Nat.{ℕ}
 use Rattle.lists.specs.Alias.{Bytes}
 use Rattle.lists.proofs.Choice.{or-left, or-right}
 use Rattle.number.specs.Agree.{Agree, DecidedBy}
-use Rattle.number.proofs.NumberAgree.{within-true, agree-less, part-agree}
+use Rattle.number.proofs.NumberAgree.{agree-less}
 use Rattle.refusal.specs.Answer.{Answer, given, refused, andThen}
 use Rattle.anlz.specs.declared.Section.{Section}
 use Rattle.anlz.specs.Section.{tagOf}
 use Rattle.anlz.specs.First.{firstSection}
 use Rattle.anlz.specs.Bytes.{envelopeByte}
-use Rattle.anlz.proofs.SectionsAgree.{first-agree}
+use Rattle.anlz.proofs.SectionsAgree.{first-agree, tag-bytes-agree}
 use Rattle.beat_grid.specs.declared.GridBeat.{GridBeat}
 use Rattle.beat_grid.specs.Grid.{pqtz, gridIn, needed, gridSection, grid}
-use Rattle.grid_depend.specs.Bytes.{inTag, inGrid, relevant}
-
-tag-agree : (test : Bytes → ℕ → Bool) {s t : Bytes} (section : Section) → Agree (inTag test s section) s t
-    → Agree (test (tagOf s section)) (tagOf s section) (tagOf t section)
-unfolding inTag
-tag-agree test {s} section a = part-agree place size byte a
-  where
-    place : ℕ
-    place = section .place
-
-    size : ℕ
-    size = section .end - place
-
-    byte : (i : ℕ) → i < size → test (tagOf s section) i ≡ true → inTag test s section (place + i) ≡ true
-    byte i h e =
-        let back : i ≡ place + i - place = omega arith in
-        rw (within-true place size (place + i) (omega arith) (omega arith)) (rw back at e)
+use Rattle.grid_depend.specs.Bytes.{inGrid, relevant}
 
 module _ {A : Type 0} (test : Bytes → ℕ → Bool) (rest : List GridBeat → Answer A)
     (tags : (tag : Bytes) → DecidedBy (test tag) (λ (other : Bytes). andThen (gridIn other) rest) tag) where
   section-agree : (s t : Bytes) (section : Answer Section) → Agree (inGrid test s section) s t
       → andThen (andThen section (λ (x : Section). gridIn (tagOf s x))) rest ≡ andThen (andThen section (λ (x : Section). gridIn (tagOf t x))) rest
-  section-agree s t (given section) a = tags (tagOf s section) (tagOf t section) (tag-agree test section a)
+  section-agree s t (given section) a = tags (tagOf s section) (tagOf t section) (tag-bytes-agree test section a)
   section-agree s t (refused f) a = refl
 
   pub grid-agree : (file : Bytes) → DecidedBy (relevant test file) (λ (other : Bytes). andThen (grid other) rest) file

@@ -1,34 +1,28 @@
 -- Rule 14.19: the bytes that are relevant for the number of beats (`count-among`) and for beat k (`beat-among`) are among those that are
 -- said to be relevant for both questions. Rests on the definitions alone.
-use mathlib.Core.Path.{_≡_, sym, _∙_}
-use mathlib.Core.Bool.{Bool, true, false, false≢true}
+use mathlib.Core.Path.{_≡_}
+use mathlib.Core.Bool.{Bool, true, false≢true}
 use Prim.Native.Nat.{ℕ, _-_}
-use native.Mathlib.Omega.{arith}
 use lib.Dec.{leb}
-use borrow.Author.Tests.{le-leb, leb-false}
+use borrow.Author.Tests.{le-leb}
 use Rattle.lists.specs.Alias.{Bytes}
-use Rattle.lists.proofs.Any.{any-none}
 use Rattle.lists.proofs.Choice.{on, both-true, or-left, or-right}
 use Rattle.number.specs.Agree.{within}
-use Rattle.number.proofs.NumberAgree.{within-both, within-false}
 use Rattle.refusal.specs.Answer.{Answer, given, refused, andThen}
 use Rattle.anlz.specs.declared.Section.{Section}
 use Rattle.anlz.specs.Section.{tagOf}
-use Rattle.anlz.specs.Bytes.{envelopeByte}
+use Rattle.anlz.specs.Bytes.{envelopeByte, inTag}
 use Rattle.entries.specs.Entries.{entryAt, fills}
+use Rattle.entries.specs.Bytes.{inEntry}
+use Rattle.entries.proofs.EntriesAgree.{entry-behind, entries-behind}
 use Rattle.beat_grid.specs.Beat.{beatSize}
 use Rattle.beat_grid.specs.Grid.{len-beats, gridIn, gridSection}
 use Rattle.beat_grid.specs.Questions.{counted}
-use Rattle.grid_depend.specs.Bytes.{barByte, countByte, hasBeat, beatByte, bothByte, inTag, inGrid, relevant}
+use Rattle.grid_depend.specs.Bytes.{barByte, countByte, hasBeat, beatByte, bothByte, inGrid, relevant}
 
 -- no bar position stands before the first beat
 bar-among : (count i : ℕ) → barByte count i ≡ true → leb (entryAt beatSize 0) i ≡ true
-unfolding barByte
-bar-among count i e =
-    on (leb (entryAt beatSize 0) i) (λ h. h)
-    (λ h.
-    let before = leb-false (entryAt beatSize 0) i h in
-    absurd (false≢true (sym (any-none _ _ _ (λ j l k. within-false (entryAt beatSize j) 2 i (λ q r. omega arith))) ∙ e)))
+bar-among count i e = le-leb (entryAt beatSize 0) i (entries-behind (within 0 2) beatSize count i e)
 
 module _ (tag : Bytes) (i : ℕ) where
   tag-count-among : countByte tag i ≡ true → bothByte tag i ≡ true
@@ -42,8 +36,8 @@ module _ (tag : Bytes) (i : ℕ) where
   unfolding beatByte bothByte
   tag-beat-among k e =
       on (countByte tag i) tag-count-among
-      (λ h. let both = both-true (hasBeat k (andThen (gridIn tag) counted)) (within (entryAt beatSize k) beatSize i) (rw h at e) in
-      or-right (within 0x14 4 i) (le-leb (entryAt beatSize 0) i (omega (arith, within-both (entryAt beatSize k) beatSize i (both .1)))))
+      (λ h. let both = both-true (hasBeat k (andThen (gridIn tag) counted)) (inEntry (within 0 beatSize) beatSize k i) (rw h at e) in
+      or-right (within 0x14 4 i) (le-leb (entryAt beatSize 0) i (entry-behind (within 0 beatSize) beatSize k i (both .1))))
 
 -- where bytes of a tag are among others, so are those of the file
 module _ (fewer more : Bytes → ℕ → Bool) (among : (tag : Bytes) (i : ℕ) → fewer tag i ≡ true → more tag i ≡ true) (file : Bytes) (i : ℕ) where

@@ -1,23 +1,22 @@
 -- Rules 14.17 to 14.19: the relevant bytes of an ANLZ file, those that an answer about its beat grid may depend on.
--- Rests on the envelopes (anlz/Bytes), and on where the entries of a tag stand (entries/Entries).
+-- Rests on the envelopes and the bytes of a section (anlz/Bytes), and on the bytes of its entries (entries/Bytes).
 use mathlib.Core.Bool.{Bool, false, _&&_, _||_}
-use Prim.Native.Nat.{ℕ, _-_}
+use Prim.Native.Nat.{ℕ}
 use lib.Dec.{ltb, leb}
 use Rattle.lists.specs.Alias.{Bytes}
-use Rattle.lists.specs.Any.{anyFrom}
 use Rattle.number.specs.Agree.{within}
 use Rattle.refusal.specs.Answer.{Answer, given, refused, andThen}
 use Rattle.anlz.specs.declared.Section.{Section}
-use Rattle.anlz.specs.Section.{tagOf}
-use Rattle.anlz.specs.Bytes.{envelopeByte}
+use Rattle.anlz.specs.Bytes.{envelopeByte, inTag}
 use Rattle.entries.specs.Entries.{entryAt, fills}
+use Rattle.entries.specs.Bytes.{inEntry, inEntries}
 use Rattle.beat_grid.specs.Beat.{beatSize}
 use Rattle.beat_grid.specs.Grid.{len-beats, gridIn, gridSection}
 use Rattle.beat_grid.specs.Questions.{counted}
 
 -- the bar positions of so many beats of the tag
-unfoldable pub barByte : (count i : ℕ) → Bool
-barByte count i = anyFrom (λ (j : ℕ). within (entryAt beatSize j) 2 i) count 0
+abbrev pub barByte : (count i : ℕ) → Bool
+barByte count i = inEntries (within 0 2) beatSize count i
 
 -- Rule 14.17, for the number of beats: len_beats and, where the beats fill the tag, all bar positions
 unfoldable pub countByte : (tag : Bytes) (i : ℕ) → Bool
@@ -30,17 +29,13 @@ hasBeat k (refused f) = false
 
 -- Rule 14.18, for beat k: those and, where there is one, its eight bytes
 unfoldable pub beatByte : (k : ℕ) (tag : Bytes) (i : ℕ) → Bool
-beatByte k tag i = countByte tag i || (hasBeat k (andThen (gridIn tag) counted) && within (entryAt beatSize k) beatSize i)
+beatByte k tag i = countByte tag i || (hasBeat k (andThen (gridIn tag) counted) && inEntry (within 0 beatSize) beatSize k i)
 
 -- Rule 14.19, for both questions and every k: len_beats, and all bytes from the first beat on
 unfoldable pub bothByte : (tag : Bytes) (i : ℕ) → Bool
 bothByte tag i = within 0x14 4 i || leb (entryAt beatSize 0) i
 
--- byte i of the file stands in a section, and passes a test as a byte of its tag
-unfoldable pub inTag : (test : (tag : Bytes) (i : ℕ) → Bool) (file : Bytes) (section : Section) (i : ℕ) → Bool
-inTag test file section i = within (section .place) (section .end - section .place) i && test (tagOf file section) (i - section .place)
-
--- the same of the grid section, where there is one
+-- byte i of the file stands in the grid section, where there is one, and passes the test as a byte of its tag
 abbrev pub inGrid : (test : (tag : Bytes) (i : ℕ) → Bool) (file : Bytes) (grid : Answer Section) (i : ℕ) → Bool
 inGrid test file (given section) i = inTag test file section i
 inGrid test file (refused f) i = false

@@ -1,22 +1,23 @@
--- `beat_grid::bars_hold` meets its contract: by the loop's invariant `Judging` (proofs/BarsLoop).
+-- `beat_grid::bars_hold` meets its contract: by the loop's invariant `EntriesLeft` (entries/EntriesLoop).
 use mathlib.Core.Path.{sym, _∙_}
 use Prim.Native.Nat.{_-_}
 use borrow.Author.Needs.{needs}
 use borrow.Author.Tests.{not-true, not-false}
-use Rattle.beat_grid.specs.Beat.{barsHold}
-use Rattle.beat_grid.specs.Private.{beatsFrom}
-use Rattle.beat_grid.proofs.BarsLoop.{Judging, bars-begin, bars-bad, bars-next, bars-end}
+use Rattle.entries.specs.Entries.{entries}
+use Rattle.entries.specs.Every.{everyEntry}
+use Rattle.entries.proofs.EntriesLoop.{EntriesLeft, entries-begin, entries-bad, entries-next, entries-end}
+use Rattle.beat_grid.specs.Beat.{beatSize, beatHolds}
 use Rattle.beat_grid.proofs.bars_hold.Statement.{statement}
 use Rattle.beat_grid.proofs.bars_hold.Tie as tie
 
 abbrev Inv-loop : tie.InvT-loop
-Inv-loop tag count beats k₀ k = Judging tag (barsHold (beatsFrom tag count 0)) count k
+Inv-loop tag count beats k₀ k = EntriesLeft beatHolds beatSize tag (everyEntry beatHolds (entries beatSize count tag)) count k
 
 abbrev μ-loop : tie.MeasureT-loop
 μ-loop tag count beats k₀ k = count - k
 
 loop-holds : tie.Need-loop-holds Inv-loop μ-loop
-loop-holds c = bars-begin _ _
+loop-holds c = entries-begin _ _ _ _
 
 entry-requires : tie.Need-entry-requires Inv-loop μ-loop
 entry-requires c κs = search needs
@@ -32,7 +33,7 @@ returns c =
     let bar = c .before in
     let part = bar .before .before in
     let turn = part .before in
-    bars-bad (turn .before .loop .inv) (turn .loop-test .taken)
+    entries-bad (turn .before .loop .inv) (turn .loop-test .taken)
     (rw (bar .before .u16-be-at .ensures, part .entry .ensures) at (sym (bar .bar-holds .ensures) ∙ not-true _ (c .if1 .taken)))
 
 add-k : tie.Need-add-k Inv-loop μ-loop
@@ -46,11 +47,11 @@ loop-again c =
     let bar = c .before in
     let part = bar .before .before in
     let turn = part .before in
-    bars-next (turn .before .loop .inv) (turn .loop-test .taken)
+    entries-next (turn .before .loop .inv) (turn .loop-test .taken)
     (rw (bar .before .u16-be-at .ensures, part .entry .ensures) at (sym (bar .bar-holds .ensures) ∙ not-false _ (c .if1 .left)))
 
 returns-2 : tie.Need-returns-2 Inv-loop μ-loop
-returns-2 c = bars-end (c .before .loop .inv) (c .loop-test .left)
+returns-2 c = entries-end (c .before .loop .inv) (c .loop-test .left)
 
 pub bars-hold-spec : {M : Type 1} → statement M
 bars-hold-spec =
