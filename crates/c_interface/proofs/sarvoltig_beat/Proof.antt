@@ -1,6 +1,6 @@
 -- `sarvoltig_beat` meets its contract: `beat_grid::beat` gives the answer, and `reply_beat` its code and values.
 use Rattle.c_reply.specs.Reply.{replyTo}
-use Rattle.c_beats.specs.Replies.{beatReply}
+use Rattle.c_anlz.specs.Replies.{beatReply}
 use Rattle.c_interface.proofs.ReplyCarriesOver.{replied}
 use borrow.Author.Needs.{needs}
 use Rattle.c_interface.proofs.sarvoltig_beat.Statement.{statement}

@@ -1,6 +1,6 @@
 -- `sarvoltig_beats` meets its contract: `beat_grid::beats` gives the answer, and `reply_beats` its code and values.
 use Rattle.c_reply.specs.Reply.{replyTo}
-use Rattle.c_beats.specs.Replies.{beatsReply}
+use Rattle.c_anlz.specs.Replies.{beatsReply}
 use Rattle.c_interface.proofs.ReplyCarriesOver.{replied}
 use borrow.Author.Needs.{needs}
 use Rattle.c_interface.proofs.sarvoltig_beats.Statement.{statement}

@@ -1,19 +1,13 @@
--- `c_beats::reply_beat` meets its contract: the beat gives the values, or the refusal its number.
+-- `c_anlz::reply_beats` meets its contract: the number of beats is the value, or the refusal gives its number.
 use borrow.Author.Needs.{needs}
-use Rattle.c_beats.proofs.reply_beat.Statement.{statement}
-use Rattle.c_beats.proofs.reply_beat.Tie as tie
+use Rattle.c_anlz.proofs.reply_beats.Statement.{statement}
+use Rattle.c_anlz.proofs.reply_beats.Tie as tie
 
 enum-known-answer : tie.Need-enum-known-answer
 enum-known-answer c = search needs
 
 cast-t7 : tie.Need-cast-t7
 cast-t7 c = search needs
-
-cast-t8 : tie.Need-cast-t8
-cast-t8 c = search needs
-
-cast-t9 : tie.Need-cast-t9
-cast-t9 c = search needs
 
 slice-aggregate-put : tie.Need-slice-aggregate-put
 slice-aggregate-put c = search needs
@@ -31,7 +25,7 @@ same-length : tie.Need-same-length
 same-length c = search needs
 
 returns : tie.Need-returns
-returns c = rw (c .before .before .before .before .before .before .before .before .before .answer .given .1) (c .before .before .put .ensures)
+returns c = rw (c .before .before .before .before .before .before .answer .given .1) (c .before .before .put .ensures)
 
 same-length-2 : tie.Need-same-length-2
 same-length-2 c = search needs
@@ -39,14 +33,12 @@ same-length-2 c = search needs
 returns-2 : tie.Need-returns-2
 returns-2 c = rw (c .before .before .before .before .before .answer2 .given .1) (c .before .before .refuse .ensures)
 
-pub reply-beat-spec : {M : Type 1} → statement M
-reply-beat-spec =
+pub reply-beats-spec : {M : Type 1} → statement M
+reply-beats-spec =
     tie.close
     (tie.spec
     enum-known-answer
     cast-t7
-    cast-t8
-    cast-t9
     slice-aggregate-put
     put-requires
     enum-known-answer-2

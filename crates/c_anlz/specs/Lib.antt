@@ -1,0 +1,2 @@
+-- What C is answered about an ANLZ file.
+pub mod Replies

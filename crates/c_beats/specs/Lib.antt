@@ -1,2 +1,0 @@
--- What C is answered about a beat grid.
-pub mod Replies
