@@ -1,12 +1,13 @@
 -- Rule 14.16: two files of one length that agree on the envelopes have the same sections (`sections-agree`), and so the same first
--- section with a code (`first-agree`). Files that agree on bytes of a section have tags that do (`tag-bytes-agree`). Rests on what stands at a place (StepsEnough) and on numbers that agree (crate number).
+-- section with a code (`first-agree`). Files that agree on bytes of a section have tags that do
+-- (`tag-bytes-agree`), and where bytes of a tag are among others, so are those of the file (`tag-among`). Rests on what stands at a place (StepsEnough) and on numbers that agree (crate number).
 use mathlib.Core.Path.{_≡_, refl, sym, _∙_}
 use mathlib.Core.Bool.{Bool, true}
 use Prim.Native.Nat.{ℕ, zero, suc, _+_, _-_, _<_, _≤_}
 use native.Mathlib.Omega.{arith}
 use lib.ListN.{length}
 use Rattle.lists.specs.Alias.{Bytes}
-use Rattle.lists.proofs.Choice.{on, or-left, or-right}
+use Rattle.lists.proofs.Choice.{on, or-left, or-right, both-true}
 use Rattle.number.specs.Number.{be32}
 use Rattle.number.specs.Agree.{Agree, within}
 use Rattle.number.proofs.NumberAgree.{within-true, within-less, agree-less, be32-agree, part-agree}
@@ -88,3 +89,11 @@ tag-bytes-agree test {s} section a = part-agree place size byte a
     byte i h e =
         let back : i ≡ place + i - place = omega arith in
         rw (within-true place size (place + i) (omega arith) (omega arith)) (rw back at e)
+
+pub tag-among : (fewer more : Bytes → ℕ → Bool) → ((tag : Bytes) (i : ℕ) → fewer tag i ≡ true → more tag i ≡ true)
+    → (file : Bytes) (section : Section) (i : ℕ) → inTag fewer file section i ≡ true → inTag more file section i ≡ true
+unfolding inTag
+tag-among fewer more among file section i e =
+    let inside = within (section .place) (section .end - section .place) i in
+    let both = both-true inside (fewer (tagOf file section) (i - section .place)) e in
+    rw (both .0) (among (tagOf file section) (i - section .place) (both .1))

@@ -2,7 +2,7 @@
 -- said to be relevant for both questions. Rests on the definitions alone.
 use mathlib.Core.Path.{_≡_}
 use mathlib.Core.Bool.{Bool, true, false≢true}
-use Prim.Native.Nat.{ℕ, _-_}
+use Prim.Native.Nat.{ℕ}
 use lib.Dec.{leb}
 use borrow.Author.Tests.{le-leb}
 use Rattle.lists.specs.Alias.{Bytes}
@@ -10,8 +10,8 @@ use Rattle.lists.proofs.Choice.{on, both-true, or-left, or-right}
 use Rattle.number.specs.Agree.{within}
 use Rattle.refusal.specs.Answer.{Answer, given, refused, andThen}
 use Rattle.anlz.specs.declared.Section.{Section}
-use Rattle.anlz.specs.Section.{tagOf}
-use Rattle.anlz.specs.Bytes.{envelopeByte, inTag}
+use Rattle.anlz.specs.Bytes.{envelopeByte}
+use Rattle.anlz.proofs.SectionsAgree.{tag-among}
 use Rattle.entries.specs.Entries.{entryAt, fills}
 use Rattle.entries.specs.Bytes.{inEntry}
 use Rattle.entries.proofs.EntriesAgree.{entry-behind, entries-behind}
@@ -42,11 +42,7 @@ module _ (tag : Bytes) (i : ℕ) where
 -- where bytes of a tag are among others, so are those of the file
 module _ (fewer more : Bytes → ℕ → Bool) (among : (tag : Bytes) (i : ℕ) → fewer tag i ≡ true → more tag i ≡ true) (file : Bytes) (i : ℕ) where
   grid-among : (section : Answer Section) → inGrid fewer file section i ≡ true → inGrid more file section i ≡ true
-  unfolding inTag
-  grid-among (given section) e =
-      let inside = within (section .place) (section .end - section .place) i in
-      let both = both-true inside (fewer (tagOf file section) (i - section .place)) e in
-      rw (both .0) (among (tagOf file section) (i - section .place) (both .1))
+  grid-among (given section) e = tag-among fewer more among file section i e
   grid-among (refused f) e = absurd (false≢true e)
 
   file-among : relevant fewer file i ≡ true → relevant more file i ≡ true
