@@ -40,7 +40,7 @@ module _ (tag : Bytes) where
 module _ (tag : Bytes) (tags : List Bytes) (k : ℕ) where
   pub cue-here : k < len-cues tag → elementAt k (allCues (tag ∷ tags)) ≡ given (cueOf (listTypeOf tag) (entry cueSize tag k))
   unfolding allCues
-  cue-here h = element-front k (cuesIn tag) (allCues tags) (rw (cues-counted tag) h) ∙ cue-inside tag k h
+  cue-here h = element-front k (cuesIn tag) _ (rw (cues-counted tag) h) ∙ cue-inside tag k h
 
   pub cue-behind : len-cues tag ≤ k → elementAt k (allCues (tag ∷ tags)) ≡ elementAt (k - len-cues tag) (allCues tags)
   unfolding allCues

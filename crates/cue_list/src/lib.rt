@@ -5,7 +5,7 @@ ghost use lib.ListN.{length};
 ghost use Rattle.entries.specs.Entries.{entries};
 ghost use Rattle.entries.specs.Every.{everyEntry};
 ghost use Rattle.cue_list.specs.Cue.{cueSize, cueHolds, positionOf, cueOf};
-ghost use Rattle.cue_list.specs.CueList.{listTypeOf, listHolds};
+ghost use Rattle.cue_list.specs.CueList.{len-cues, listTypeOf, listHolds};
 ghost use Rattle.cue_list.specs.Questions.{askCue, cueReplyOf};
 ghost use Rattle.cue_list.specs.Private.{passed, searched, searchedSection, ended, cueFrom};
 use anlz::AnlzRefusal;
@@ -112,6 +112,13 @@ fn cue_holds(entry: &[u8]) -> bool
     if kind == 1 { true } else { kind == 2 }
 }
 
+// The number of cues in this list.
+fn len_cues(tag: &[u8]) -> u32
+    ensures { λ r. ⌜ r ≡ len-cues (now (tag .entry)) ⌝ }
+{
+    number::u16_be_at(tag, 0x12) as u32
+}
+
 // Whether each of so many entries is a cue.
 fn cues_hold(tag: &[u8], count: u32) -> bool
     ensures { λ r. ⌜ r ≡ everyEntry cueHolds (entries cueSize count (now (tag .entry))) ⌝ }
@@ -136,7 +143,7 @@ fn list_holds(tag: &[u8]) -> bool
     if 1 < number::u32_be_at(tag, 0x0c) {
         return false;
     }
-    let count = number::u16_be_at(tag, 0x12) as u32;
+    let count = len_cues(tag);
     let cues = Entries {
         width: Cue::SIZE,
         count,
@@ -152,7 +159,7 @@ fn list_holds(tag: &[u8]) -> bool
 fn pass(k: u64, tag: &[u8]) -> Search
     ensures { λ r. ⌜ r ≡ passed k (now (tag .entry)) ⌝ }
 {
-    let count = number::u16_be_at(tag, 0x12) as u32;
+    let count = len_cues(tag);
     if (count as u64) <= k {
         return Search::Left(k - (count as u64));
     }

@@ -4,23 +4,20 @@ use borrow.Author.Needs.{needs}
 use Rattle.cue_list.proofs.pass.Statement.{statement}
 use Rattle.cue_list.proofs.pass.Tie as tie
 
-u16-be-at-requires : tie.Need-u16-be-at-requires
-u16-be-at-requires c κs = search needs
-
-cast-count : tie.Need-cast-count
-cast-count c = search needs
+len-cues-requires : tie.Need-len-cues-requires
+len-cues-requires c κs = search needs
 
 cast-if1 : tie.Need-cast-if1
 cast-if1 c = search needs
 
-cast-t9 : tie.Need-cast-t9
-cast-t9 c = search needs
+cast-t8 : tie.Need-cast-t8
+cast-t8 c = search needs
 
-sub-t10 : tie.Need-sub-t10
-sub-t10 c = search needs
+sub-t9 : tie.Need-sub-t9
+sub-t9 c = search needs
 
 returns : tie.Need-returns
-returns c = rw (← c .before .u16-be-at .ensures, le-leb _ _ (c .if1 .taken))
+returns c = rw (← c .before .len-cues .ensures, le-leb _ _ (c .if1 .taken))
 
 read-requires : tie.Need-read-requires
 read-requires c κs = search needs
@@ -37,17 +34,16 @@ read-requires-2 c κs = search needs
 returns-2 : tie.Need-returns-2
 returns-2 c =
     let count = c .before .before .before in
-    rw (← count .before .u16-be-at .ensures, lt-leb _ _ (count .if1 .left), c .read2 .ensures, c .before .before .read .ensures, c .before .entry .ensures)
+    rw (← count .before .len-cues .ensures, lt-leb _ _ (count .if1 .left), c .read2 .ensures, c .before .before .read .ensures, c .before .entry .ensures)
 
 pub pass-spec : {M : Type 1} → statement M
 pass-spec =
     tie.close
     (tie.spec
-    u16-be-at-requires
-    cast-count
+    len-cues-requires
     cast-if1
-    cast-t9
-    sub-t10
+    cast-t8
+    sub-t9
     returns
     read-requires
     cast-entry
