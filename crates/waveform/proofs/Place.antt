@@ -1,6 +1,6 @@
 -- Rule 14.28: where an entry stands that is answered (`entry-placed`). Rests on how entries lie that fill a section (entries/Filled), and on
 -- parts of a slice.
-use mathlib.Core.Path.{_≡_, refl, sym, _∙_}
+use mathlib.Core.Path.{_≡_, refl}
 use mathlib.Core.Bool.{true}
 use mathlib.Core.Option.{Option, none, some}
 use Prim.Native.Nat.{ℕ, _<_}
@@ -10,20 +10,18 @@ use borrow.Author.Tests.{leb-false}
 use Rattle.lists.specs.Alias.{Bytes}
 use Rattle.lists.proofs.Choice.{on, never}
 use Rattle.lists.proofs.Part.{part-ends, part-inside}
-use Rattle.refusal.specs.Fault.{fault}
 use Rattle.refusal.specs.Answer.{Answer, given, refused, andThen}
 use Rattle.anlz.specs.declared.Section.{Section}
 use Rattle.anlz.specs.Section.{tagOf}
-use Rattle.anlz.specs.First.{firstSection}
-use Rattle.entries.specs.Entries.{entryAt, entry}
+use Rattle.anlz.specs.Sections.{sections}
+use Rattle.anlz.specs.First.{firstWith, firstSection}
+use Rattle.entries.specs.Entries.{entryAt}
 use Rattle.waveform.specs.declared.Wave.{Wave}
-use Rattle.waveform.specs.declared.Wave.the-variants.{Detail}
 use Rattle.waveform.specs.declared.WaveEntry.{WaveEntry}
 use Rattle.waveform.specs.Sort.{sortOf, waveCode}
 use Rattle.waveform.specs.Wave.{len-entries, waveWidth, waveHolds, waveEntry, entryIn}
+use Rattle.waveform.specs.Questions.{orAbsent, waveSection, askWave}
 use Rattle.waveform.specs.Place.{EntryPlace, EveryWaveEntry}
-use Rattle.waveform.specs.Private.{entryOf}
-use Rattle.waveform.proofs.SectionAsked.{ask-known, ask-absent}
 use Rattle.waveform.proofs.EntryIn.{wave-filled}
 
 -- what is known of an entry that is answered
@@ -63,19 +61,21 @@ section-placed file number k e {wave} {section} sort first g =
       bytes = part-inside file (section .place) (section .end) (entryAt (waveWidth wave) k) (waveWidth wave) inside;
     })
 
+-- where an answer with something behind it is given, both are
+then-given : {A B P : Type 0} (answer : Answer A) {rest : A → Answer B} {y : B} → andThen answer rest ≡ given y
+    → ((x : A) → answer ≡ given x → rest x ≡ given y → P) → P
+then-given (given x) q then = then x refl q
+then-given (refused f) q then = never (cc q)
+
+not-absent : {A : Type 0} (found : Option A) {x : A} → orAbsent found ≡ given x → found ≡ some x
+not-absent (some x) q = cc
+not-absent none q = never (cc q)
+
 pub entry-placed : EveryWaveEntry
-entry-placed file number k e q = by-sort (sortOf number) refl
-  where
-    by-first : (wave : Wave) → sortOf number ≡ some wave → (first : Answer (Option Section)) → first ≡ firstSection file (waveCode wave)
-        → andThen first (entryOf wave file k) ≡ given e → EntryPlace file number k e
-    by-first wave s (given (some section)) f p = section-placed file number k e s (sym f) (entry-in-given wave file section k e p)
-    by-first wave s (given none) f p = never (cc p)
-    by-first wave s (refused g) f p = never (cc p)
-
-    no-entry : (first : Answer (Option Section)) → _≡_ {A = Answer WaveEntry} (andThen first (λ (found : Option Section). refused (fault 18 0))) (given e) → EntryPlace file number k e
-    no-entry (given found) p = never (cc p)
-    no-entry (refused g) p = never (cc p)
-
-    by-sort : (sort : Option Wave) → sort ≡ sortOf number → EntryPlace file number k e
-    by-sort (some wave) s = by-first wave (sym s) (firstSection file (waveCode wave)) refl (ask-known file number k s ∙ q)
-    by-sort none s = no-entry (firstSection file (waveCode Detail)) (ask-absent file number k s ∙ q)
+unfolding askWave firstSection
+entry-placed file number k e q =
+    then-given (sections file) q (λ all listed q1.
+    then-given (orAbsent (sortOf number)) q1 (λ wave known q2.
+    then-given (waveSection wave all) q2 (λ section found q3.
+    let first = not-absent (firstWith (waveCode wave) all) found in
+    section-placed file number k e (not-absent (sortOf number) known) (rw (listed, first)) (entry-in-given wave file section k e q3))))
