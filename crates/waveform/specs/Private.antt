@@ -13,13 +13,14 @@ use Rattle.waveform.specs.Sort.{waveCode}
 use Rattle.waveform.specs.Wave.{entryIn}
 use Rattle.waveform.specs.Questions.{orAbsent}
 
--- what is answered for a sort, of the first section with its code
+-- the answer for a sort, where this is found as its first section
 abbrev pub entryOf : (wave : Wave) (file : Bytes) (k : ℕ) (found : Option Section) → Answer WaveEntry
 entryOf wave file k found = andThen (orAbsent found) (λ (section : Section). entryIn wave file section k)
 
+-- the answer for a sort that there is
 abbrev pub askKnown : (wave : Wave) (file : Bytes) (k : ℕ) → Answer WaveEntry
 askKnown wave file k = andThen (firstSection file (waveCode wave)) (entryOf wave file k)
 
--- what is answered for an absent sort, of the first section with any code
+-- the answer for an absent sort: looking for a section, of any code, judges them all
 abbrev pub askAbsent : (file : Bytes) → Answer WaveEntry
 askAbsent file = andThen (firstSection file (waveCode Detail)) (λ (found : Option Section). refused (fault 18 0))
