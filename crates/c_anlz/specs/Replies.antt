@@ -7,6 +7,7 @@ use Rattle.cue_list.specs.declared.CueListType.{CueListType}
 use Rattle.cue_list.specs.declared.CueListType.the-variants.{Memory, Hot}
 use Rattle.cue_list.specs.declared.CuePosition.{CuePosition}
 use Rattle.cue_list.specs.declared.CuePosition.the-variants.{Point, Loop}
+use Rattle.waveform.specs.declared.WaveEntry.{WaveEntry}
 use Rattle.c_reply.specs.Code.{done}
 use Rattle.c_reply.specs.Reply.{Reply, reply}
 
@@ -28,3 +29,6 @@ positionValues (Loop time loop-time) = 2 ∷ time ∷ loop-time ∷ []
 
 abbrev pub cueReply : Cue → Reply
 cueReply cue = reply done (listNumber (cue .list) ∷ cue .«hot_cue» ∷ positionValues (cue .position))
+
+abbrev pub waveReply : WaveEntry → Reply
+waveReply entry = reply done (entry .place ∷ entry .width ∷ [])

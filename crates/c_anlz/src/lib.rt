@@ -4,8 +4,9 @@ ghost use mathlib.Core.List.{[], _∷_};
 ghost use Rattle.anlz.specs.Fault.{anlzNumber};
 ghost use Rattle.beat_grid.specs.Questions.{beatsReplyOf, beatReplyOf};
 ghost use Rattle.cue_list.specs.Questions.{cueReplyOf};
+ghost use Rattle.waveform.specs.Questions.{waveReplyOf};
 ghost use Rattle.c_reply.specs.Reply.{reply, replyTo, Replied};
-ghost use Rattle.c_anlz.specs.Replies.{beatsReply, beatReply, listNumber, cueReply};
+ghost use Rattle.c_anlz.specs.Replies.{beatsReply, beatReply, listNumber, cueReply, waveReply};
 use anlz::AnlzRefusal;
 use beat_grid::BeatReply;
 use beat_grid::BeatsReply;
@@ -14,6 +15,7 @@ use cue_list::Cue;
 use cue_list::CueListType;
 use cue_list::CuePosition;
 use cue_list::CueReply;
+use waveform::WaveReply;
 
 // The reply to a refusal: its number, and 0 for the value and the entry.
 fn refuse(refusal: AnlzRefusal, result: &mut [u64]) -> u32
@@ -88,5 +90,21 @@ pub fn reply_cue(answer: CueReply, result: &mut [u64]) -> u32
     match answer {
         CueReply::Found(cue) => put_cue(cue, result),
         CueReply::Refused(refusal) => refuse(refusal, result),
+    }
+}
+
+// The reply with an entry of a waveform.
+pub fn reply_wave(answer: WaveReply, result: &mut [u64]) -> u32
+    ensures { λ r. ⌜ Replied (replyTo waveReply (waveReplyOf answer)) r (now (result .entry)) (now (result .exit)) ⌝ }
+{
+    match answer {
+        WaveReply::Found(entry) => {
+            c_reply::put(
+                Code::DONE,
+                &[entry.place as u64, entry.width as u64],
+                result,
+            )
+        }
+        WaveReply::Refused(refusal) => refuse(refusal, result),
     }
 }

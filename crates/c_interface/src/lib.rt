@@ -1,5 +1,5 @@
-// The C interface, over numbers and slices: opening, delivery, packets, the three questions, reading from a list, and the beat
-// grid of an ANLZ file. Each function makes one call of the library and replies to its answer (crates c_replies, c_anlz).
+// The C interface, over numbers and slices: opening, delivery, packets, the three questions, reading from a list, and beats, cues
+// and waveforms of an ANLZ file. Each function makes one call of the library and replies to its answer (crates c_replies, c_anlz).
 ghost use mathlib.Core.Path.{_≡_};
 ghost use Rattle.intake.specs.Open.{opening};
 ghost use Rattle.intake.specs.Memory.{memory};
@@ -11,9 +11,10 @@ ghost use Rattle.export.specs.Text.{askText};
 ghost use Rattle.export.specs.FromList.{askRecordIn, askTextIn};
 ghost use Rattle.beat_grid.specs.Questions.{askBeats, askBeat};
 ghost use Rattle.cue_list.specs.Questions.{askCue};
+ghost use Rattle.waveform.specs.Questions.{askWave};
 ghost use Rattle.c_reply.specs.Reply.{replyTo, Replied};
 ghost use Rattle.c_replies.specs.Replies.{openReply, deliverReply, packetReply, walkReply, recordReply, textReply};
-ghost use Rattle.c_anlz.specs.Replies.{beatsReply, beatReply, cueReply};
+ghost use Rattle.c_anlz.specs.Replies.{beatsReply, beatReply, cueReply, waveReply};
 use intake::Intake;
 
 // Opens an intake for a file of len bytes.
@@ -208,4 +209,12 @@ pub extern "C" fn sarvoltig_cue(file: &[u8], k: u64, result: &mut [u64]) -> u32
     ensures { λ r. ⌜ Replied (replyTo cueReply (askCue (now (file .entry)) k)) r (now (result .entry)) (now (result .exit)) ⌝ }
 {
     c_anlz::reply_cue(cue_list::cue_at(file, k), result)
+}
+
+// Asks for entry k of the waveform of a sort in an ANLZ file.
+#[no_mangle]
+pub extern "C" fn sarvoltig_wave(file: &[u8], sort: u64, k: u64, result: &mut [u64]) -> u32
+    ensures { λ r. ⌜ Replied (replyTo waveReply (askWave (now (file .entry)) sort k)) r (now (result .entry)) (now (result .exit)) ⌝ }
+{
+    c_anlz::reply_wave(waveform::entry(file, sort, k), result)
 }
