@@ -66,13 +66,9 @@ module _ (file : Bytes) where
   unfolding sections
   sections-refused e = rw (← e)
 
-  pub made-refused : {A : Type 0} {f : Fault} (rest : List Section → Answer A) → refused f ≡ firstPlace file
-      → refused f ≡ andThen (sections file) rest
-  made-refused rest e = rw (sections-refused e)
-
   pub first-refused : {f : Fault} (code : ℕ) → refused f ≡ firstPlace file → refused f ≡ firstSection file code
   unfolding firstSection
-  first-refused code e = made-refused _ e
+  first-refused code e = rw (sections-refused e)
 
 pub long-refused : EveryLongFile
 unfolding sections firstPlace

@@ -1,5 +1,6 @@
 -- The examples hold (specs/Examples), by computation of the definitions.
 use mathlib.Core.Path.{refl}
+use Rattle.lists.specs.Example.{ExamplesHold}
 use Rattle.lists.specs.Any.{anyFrom}
 use Rattle.number.specs.Number.{be16, be32}
 use Rattle.number.specs.Agree.{within}
@@ -14,7 +15,7 @@ use Rattle.entries.specs.Bytes.{inEntry, inEntries}
 use Rattle.cue_list.specs.Cue.{cueHolds}
 use Rattle.cue_list.specs.CueList.{listHolds, listsHold}
 use Rattle.cue_depend.specs.Bytes.{judgedByte, listByte, ownByte, inLists, cueByte, relevant, everyByte, everyRelevant}
-use Rattle.cue_depend.specs.Examples.{examples, ExamplesHold}
+use Rattle.cue_depend.specs.Examples.{examples}
 
 pub examples-hold : ExamplesHold examples
 unfolding anyFrom be16 be32 within headerHolds sectionHolds nextSection sectionsFrom firstPlace sections allWith envelopeFrom envelopeByte inTag

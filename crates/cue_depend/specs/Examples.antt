@@ -1,10 +1,10 @@
 -- Rules 14.30 and 14.31 by example: a file with a list of two memory cues, another section and a list of one hot cue, and five that differ in one
 -- byte. An example holds when the definitions say of a byte what is said here.
-use mathlib.Core.Path.{_≡_}
 use mathlib.Core.Bool.{Bool, true, false}
-use mathlib.Core.List.{List, [], _∷_, _++_, map}
+use mathlib.Core.List.{List, [], _∷_, _++_}
 use Prim.Native.Nat.{ℕ}
 use lib.ListN.{set}
+use Rattle.lists.specs.Example.{Example}
 use Rattle.lists.specs.Alias.{Bytes}
 use Rattle.cue_depend.specs.Bytes.{relevant, everyRelevant}
 
@@ -49,10 +49,6 @@ badKind = set tune 0x7c 3
 -- the section at `10` has another code
 abbrev pub otherCode : Bytes
 otherCode = set tune 0x10 0
-
-pub record Example : Type 0 where
-  pub found : Bool
-  pub said : Bool
 
 -- byte i of the file is relevant for this question, or it is not
 abbrev pub cue : (k : ℕ) (file : Bytes) (i : ℕ) → Bool
@@ -114,6 +110,3 @@ examples =
     yes (cue 0) otherCode 0x10 ∷ yes (cue 0) otherCode 0xcc ∷ yes (cue 0) otherCode 0xe0 ∷ no (cue 0) otherCode 0x1c ∷
     no (cue 0) otherCode 0x28 ∷ no (cue 0) otherCode 0x34 ∷
     []
-
-abbrev pub ExamplesHold : List Example → Type 0
-ExamplesHold list = map (λ (e : Example). e .found) list ≡ map (λ (e : Example). e .said) list

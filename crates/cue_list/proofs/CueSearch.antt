@@ -11,12 +11,13 @@ use Rattle.lists.proofs.Choice.{on}
 use Rattle.refusal.specs.declared.Fault.{Fault}
 use Rattle.refusal.specs.Fault.{fault}
 use Rattle.refusal.specs.Answer.{Answer, given, refused, refuseIf, andThen}
+use Rattle.refusal.proofs.Then.{then-then}
 use Rattle.anlz.specs.declared.Section.{Section}
 use Rattle.anlz.specs.Section.{tagOf}
 use Rattle.anlz.specs.Sections.{firstPlace, sections}
 use Rattle.anlz.specs.All.{allWith}
 use Rattle.anlz.specs.Element.{elementAt}
-use Rattle.anlz.proofs.FileStart.{made-start, made-refused}
+use Rattle.anlz.proofs.FileStart.{made-start, sections-refused}
 use Rattle.anlz.proofs.ElementAt.{element-front, element-behind}
 use Rattle.entries.specs.Entries.{entry}
 use Rattle.entries.proofs.EntryElement.{made-counted, made-inside}
@@ -104,16 +105,10 @@ among-more file s section e all =
 
 -- where the sections start, and where the file header is refused
 module _ (file : Bytes) (k : ℕ) where
-  all-cues : (all : Answer (List Section))
-      → andThen all (λ (x : List Section). andThen (cuesOf (cueLists file x)) (elementAt k))
-      ≡ andThen (andThen all (λ (x : List Section). cuesOf (cueLists file x))) (elementAt k)
-  all-cues (given all) = refl
-  all-cues (refused f) = refl
-
   pub cue-start : {place : ℕ} → given place ≡ firstPlace file → cueFrom file place k ≡ askCue file k
   unfolding cueFrom askCue cues
-  cue-start e = made-start file _ e ∙ all-cues (sections file)
+  cue-start e = made-start file _ e ∙ sym (then-then (sections file) _ _)
 
   pub cue-refused : {f : Fault} → refused f ≡ firstPlace file → refused f ≡ askCue file k
   unfolding askCue cues
-  cue-refused e = made-refused file _ e ∙ all-cues (sections file)
+  cue-refused e = rw (sections-refused file e)

@@ -1,5 +1,6 @@
 -- The examples hold (specs/Examples), by computation of the definitions.
 use mathlib.Core.Path.{refl}
+use Rattle.lists.specs.Example.{ExamplesHold}
 use Rattle.number.specs.Number.{le16, le24, le32}
 use Rattle.lists.specs.Any.{anyFrom}
 use Rattle.lists.specs.Member.{isMember}
@@ -42,7 +43,7 @@ use Rattle.export.specs.Text.{askText}
 use Rattle.depend.specs.Bytes.{walkedByte, firstBlockByte, tableByte, relevant}
 use Rattle.depend.specs.Unread.{inPresentRow, inAbsentRow, absentRow, unnamedByte, unreadByte, unreadFor}
 use Rattle.depend.specs.ListBytes.{elementReads, elementByte, listByte}
-use Rattle.depend.specs.Examples.{examples, ExamplesHold, CountAnswers, CodeAnswers}
+use Rattle.depend.specs.Examples.{examples, CountAnswers, CodeAnswers}
 
 pub examples-hold : ExamplesHold examples
 unfolding le16 le24 le32 anyFrom isMember within linkable headSize wholeSize isInside holdsCodes isCode firstZero codeLength

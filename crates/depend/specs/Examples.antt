@@ -3,10 +3,11 @@
 -- An example holds when the definitions say of a byte what is said here.
 use mathlib.Core.Path.{_≡_}
 use mathlib.Core.Bool.{Bool, true, false}
-use mathlib.Core.List.{List, [], _∷_, map}
+use mathlib.Core.List.{List, [], _∷_}
 use Prim.Native.Nat.{ℕ, zero, suc, _+_}
 use lib.ListN.{replicate}
 use lib.Seq.{sets}
+use Rattle.lists.specs.Example.{Example}
 use Rattle.lists.specs.Alias.{Bytes, Places}
 use Rattle.refusal.specs.Fault.{fault}
 use Rattle.refusal.specs.Answer.{Answer, given, refused}
@@ -85,10 +86,6 @@ oddElsewhere = sets oddShared 646 (0x8c ∷ [])
 -- slot 0 of the track
 abbrev pub code : Question
 code = oneText 0 0 0
-
-pub record Example : Type 0 where
-  pub found : Bool
-  pub said : Bool
 
 -- the blocks held, as bits of the map: all four, and without one
 abbrev pub all : ℕ
@@ -184,9 +181,6 @@ examples =
     -- a string of kind `90` and of odd size: in slot 0 all of it, in slot 1 alone its head
     yesIn oddShared code 698 ∷ yesIn oddElsewhere code 691 ∷ noIn oddElsewhere code 693 ∷
     []
-
-abbrev pub ExamplesHold : List Example → Type 0
-ExamplesHold list = map (λ (e : Example). e .found) list ≡ map (λ (e : Example). e .said) list
 
 -- what all rows of table 1 answer, where page 2 has other bytes from byte i of its header on
 abbrev pub rowsWith : (i : ℕ) (bytes : Bytes) → Walk ℕ

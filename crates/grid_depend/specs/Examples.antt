@@ -1,10 +1,10 @@
 -- Rules 14.16 to 14.19 by example: a file with a section before its grid of two beats and one behind it, and seven that differ in one byte.
 -- An example holds when the definitions say of a byte what is said here.
-use mathlib.Core.Path.{_≡_}
 use mathlib.Core.Bool.{Bool, true, false}
-use mathlib.Core.List.{List, [], _∷_, map}
+use mathlib.Core.List.{List, [], _∷_}
 use Prim.Native.Nat.{ℕ}
 use lib.ListN.{set}
+use Rattle.lists.specs.Example.{Example}
 use Rattle.lists.specs.Alias.{Bytes}
 use Rattle.grid_depend.specs.Bytes.{countByte, beatByte, bothByte, relevant}
 
@@ -49,10 +49,6 @@ badLast = set tune 0x4f 11
 abbrev pub twoGrids : Bytes
 twoGrids = set tune 0x4b 0x5a
 
-pub record Example : Type 0 where
-  pub found : Bool
-  pub said : Bool
-
 -- byte i of the file is relevant, or it is not
 abbrev pub yes : (test : Bytes → ℕ → Bool) (file : Bytes) (i : ℕ) → Example
 yes test file i = record { found = relevant test file i; said = true }
@@ -96,6 +92,3 @@ examples =
     yes countByte badCount 0x34 ∷ yes countByte badCount 0x37 ∷ no countByte badCount 0x38 ∷ no (beatByte 0) badCount 0x3c ∷
     yes (beatByte 0) badBar 0x38 ∷ yes (beatByte 0) badBar 0x41 ∷ no (beatByte 0) badBar 0x3a ∷ no (beatByte 0) badBar 0x3c ∷
     []
-
-abbrev pub ExamplesHold : List Example → Type 0
-ExamplesHold list = map (λ (e : Example). e .found) list ≡ map (λ (e : Example). e .said) list

@@ -5,3 +5,4 @@ pub mod Nth
 pub mod Member
 pub mod Distinct
 pub mod Subslice
+pub mod Example

@@ -1,9 +1,8 @@
 -- The theorem of specs/Depend: files that agree on the envelopes have the same sections (anlz/SectionsAgree), and where there is one of the
 -- sort asked, files that agree on its width and number have the same entry k there (EntryAgree).
-use mathlib.Core.Path.{_≡_, refl}
 use Rattle.lists.proofs.Choice.{or-left, or-right}
 use Rattle.number.proofs.NumberAgree.{agree-less}
-use Rattle.refusal.specs.Answer.{Answer, given, refused, andThen}
+use Rattle.refusal.proofs.Then.{then-agree}
 use Rattle.anlz.specs.Sections.{sections}
 use Rattle.anlz.specs.Bytes.{envelopeByte}
 use Rattle.anlz.proofs.SectionsAgree.{sections-agree}
@@ -12,11 +11,6 @@ use Rattle.waveform.specs.Questions.{orAbsent, waveSection, askWave}
 use Rattle.wave_depend.specs.Bytes.{relevant}
 use Rattle.wave_depend.specs.Depend.{EveryWave}
 use Rattle.wave_depend.proofs.EntryAgree.{entry-agree}
-
--- what follows an answer is the same where it is the same of what is given
-then-agree : {A B : Type 0} (answer : Answer A) {f g : A → Answer B} → ((x : A) → answer ≡ given x → f x ≡ g x) → andThen answer f ≡ andThen answer g
-then-agree (given x) same = same x refl
-then-agree (refused f) same = refl
 
 pub wave-depends : EveryWave
 unfolding relevant askWave

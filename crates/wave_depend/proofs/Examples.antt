@@ -1,5 +1,6 @@
 -- The examples hold (specs/Examples), by computation of the definitions.
 use mathlib.Core.Path.{refl}
+use Rattle.lists.specs.Example.{ExamplesHold}
 use Rattle.number.specs.Number.{be16, be32}
 use Rattle.number.specs.Agree.{within}
 use Rattle.anlz.specs.Header.{headerHolds}
@@ -9,7 +10,7 @@ use Rattle.anlz.specs.First.{firstWith}
 use Rattle.anlz.specs.Bytes.{envelopeFrom, envelopeByte, inTag}
 use Rattle.waveform.specs.Sort.{sortOf}
 use Rattle.wave_depend.specs.Bytes.{relevant}
-use Rattle.wave_depend.specs.Examples.{examples, ExamplesHold}
+use Rattle.wave_depend.specs.Examples.{examples}
 
 pub examples-hold : ExamplesHold examples
 unfolding be16 be32 within headerHolds sectionHolds nextSection sectionsFrom firstPlace sections firstWith envelopeFrom envelopeByte inTag sortOf relevant

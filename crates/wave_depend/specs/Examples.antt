@@ -1,10 +1,10 @@
 -- Rule 14.32 by example: a file with a section PWV3 of two entries, a second one behind it, and a section PWV5 of one entry, and five files
 -- that differ from it in one byte. An example holds when the definitions say of a byte what is said here.
-use mathlib.Core.Path.{_≡_}
 use mathlib.Core.Bool.{Bool, true, false}
-use mathlib.Core.List.{List, [], _∷_, map}
+use mathlib.Core.List.{List, [], _∷_}
 use Prim.Native.Nat.{ℕ}
 use lib.ListN.{set}
+use Rattle.lists.specs.Example.{Example}
 use Rattle.lists.specs.Alias.{Bytes}
 use Rattle.wave_depend.specs.Bytes.{relevant}
 
@@ -39,10 +39,6 @@ badNumber = set tune 0x23 3
 abbrev pub otherCode : Bytes
 otherCode = set tune 0x10 0
 
-pub record Example : Type 0 where
-  pub found : Bool
-  pub said : Bool
-
 -- byte i of the file is relevant for a sort, or it is not
 abbrev pub yes : (number : ℕ) (file : Bytes) (i : ℕ) → Example
 yes number file i = record { found = relevant number file i; said = true }
@@ -72,6 +68,3 @@ examples =
     -- where the section at `10` has another code, width and number of the one behind it
     no 3 otherCode 0x1c ∷ yes 3 otherCode 0x36 ∷
     []
-
-abbrev pub ExamplesHold : List Example → Type 0
-ExamplesHold list = map (λ (e : Example). e .found) list ≡ map (λ (e : Example). e .said) list

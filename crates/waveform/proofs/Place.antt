@@ -10,7 +10,8 @@ use borrow.Author.Tests.{leb-false}
 use Rattle.lists.specs.Alias.{Bytes}
 use Rattle.lists.proofs.Choice.{on, never}
 use Rattle.lists.proofs.Part.{part-ends, part-inside}
-use Rattle.refusal.specs.Answer.{Answer, given, refused, andThen}
+use Rattle.refusal.specs.Answer.{given}
+use Rattle.refusal.proofs.Then.{then-given}
 use Rattle.anlz.specs.declared.Section.{Section}
 use Rattle.anlz.specs.Section.{tagOf}
 use Rattle.anlz.specs.Sections.{sections}
@@ -60,12 +61,6 @@ section-placed file number k e {wave} {section} sort first g =
       wide = refl;
       bytes = part-inside file (section .place) (section .end) (entryAt (waveWidth wave) k) (waveWidth wave) inside;
     })
-
--- where an answer with something behind it is given, both are
-then-given : {A B P : Type 0} (answer : Answer A) {rest : A → Answer B} {y : B} → andThen answer rest ≡ given y
-    → ((x : A) → answer ≡ given x → rest x ≡ given y → P) → P
-then-given (given x) q then = then x refl q
-then-given (refused f) q then = never (cc q)
 
 not-absent : {A : Type 0} (found : Option A) {x : A} → orAbsent found ≡ given x → found ≡ some x
 not-absent (some x) q = cc

@@ -1,11 +1,12 @@
 -- Rules 14.26 and 14.29: a question about a waveform is one about the first section of its sort; an absent sort is refused behind the sections.
-use mathlib.Core.Path.{_≡_, refl}
+use mathlib.Core.Path.{_≡_}
 use mathlib.Core.List.{List}
 use mathlib.Core.Option.{Option, none, some}
 use Prim.Native.Nat.{ℕ}
 use Rattle.lists.specs.Alias.{Bytes}
 use Rattle.refusal.specs.Fault.{fault}
 use Rattle.refusal.specs.Answer.{Answer, given, refused, andThen}
+use Rattle.refusal.proofs.Then.{then-then}
 use Rattle.anlz.specs.declared.Section.{Section}
 use Rattle.anlz.specs.Sections.{sections}
 use Rattle.anlz.specs.First.{firstWith, firstSection}
@@ -18,12 +19,7 @@ use Rattle.waveform.specs.Private.{entryOf, askKnown, askAbsent}
 of-first : {A : Type 0} (file : Bytes) (code : ℕ) (rest : Option Section → Answer A)
     → andThen (firstSection file code) rest ≡ andThen (sections file) (λ (all : List Section). rest (firstWith code all))
 unfolding firstSection
-of-first file code rest = by (sections file)
-  where
-    by : (all : Answer (List Section))
-        → andThen (andThen all (λ (l : List Section). given (firstWith code l))) rest ≡ andThen all (λ (l : List Section). rest (firstWith code l))
-    by (given all) = refl
-    by (refused f) = refl
+of-first file code rest = then-then (sections file) (λ (all : List Section). given (firstWith code all)) rest
 
 module _ (file : Bytes) (number k : ℕ) where
   pub ask-known : {wave : Wave} → some wave ≡ sortOf number → askKnown wave file k ≡ askWave file number k

@@ -1,0 +1,2 @@
+-- Laws of answers (Then).
+pub mod Then
