@@ -98,13 +98,11 @@ pub fn reply_wave(answer: WaveReply, result: &mut [u64]) -> u32
     ensures { λ r. ⌜ Replied (replyTo waveReply (waveReplyOf answer)) r (now (result .entry)) (now (result .exit)) ⌝ }
 {
     match answer {
-        WaveReply::Found(entry) => {
-            c_reply::put(
-                Code::DONE,
-                &[entry.place as u64, entry.width as u64],
-                result,
-            )
-        }
+        WaveReply::Found(entry) => c_reply::put(
+            Code::DONE,
+            &[entry.place as u64, entry.width as u64],
+            result,
+        ),
         WaveReply::Refused(refusal) => refuse(refusal, result),
     }
 }
