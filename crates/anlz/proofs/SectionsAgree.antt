@@ -1,8 +1,10 @@
 -- Rule 14.16: two files of one length that agree on the envelopes have the same sections (`sections-agree`), and so the same first
 -- section with a code (`first-agree`). Files that agree on bytes of a section have tags that do
--- (`tag-bytes-agree`), and where bytes of a tag are among others, so are those of the file (`tag-among`). Rests on what stands at a place (StepsEnough) and on numbers that agree (crate number).
+-- (`tag-bytes-agree`), and where bytes of a tag are among others, so are those of the file (`tag-among`,
+-- `tags-among`). Rests on what stands at a place (StepsEnough) and on numbers that agree (crate number).
 use mathlib.Core.Path.{_≡_, refl, sym, _∙_}
 use mathlib.Core.Bool.{Bool, true}
+use mathlib.Core.List.{List, [], _∷_}
 use Prim.Native.Nat.{ℕ, zero, suc, _+_, _-_, _<_, _≤_}
 use native.Mathlib.Omega.{arith}
 use lib.ListN.{length}
@@ -16,7 +18,7 @@ use Rattle.anlz.specs.Header.{envelope, headerHolds, len-header}
 use Rattle.anlz.specs.Section.{sectionHolds, sectionAt, len-tag, tagOf}
 use Rattle.anlz.specs.Sections.{sectionsFrom, firstPlace, sections}
 use Rattle.anlz.specs.First.{firstSection}
-use Rattle.anlz.specs.Bytes.{envelopeFrom, envelopeByte, inTag}
+use Rattle.anlz.specs.Bytes.{envelopeFrom, envelopeByte, inTag, inTags}
 use Rattle.anlz.proofs.StepsEnough.{at-place, from-end, from-broken, from-found}
 
 -- what an envelope says
@@ -97,3 +99,12 @@ tag-among fewer more among file section i e =
     let inside = within (section .place) (section .end - section .place) i in
     let both = both-true inside (fewer (tagOf file section) (i - section .place)) e in
     rw (both .0) (among (tagOf file section) (i - section .place) (both .1))
+
+pub tags-among : (fewer more : Bytes → ℕ → Bool) → ((tag : Bytes) (i : ℕ) → fewer tag i ≡ true → more tag i ≡ true)
+    → (file : Bytes) (these : List Section) (i : ℕ) → inTags fewer file these i ≡ true → inTags more file these i ≡ true
+unfolding inTags
+tags-among fewer more among file [] i e = e
+tags-among fewer more among file (section ∷ rest) i e =
+    on (inTag fewer file section i)
+    (λ h. or-left _ (tag-among fewer more among file section i h))
+    (λ h. or-right (inTag more file section i) (tags-among fewer more among file rest i (rw h at e)))

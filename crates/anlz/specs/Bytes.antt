@@ -1,5 +1,6 @@
 -- Rule 14.16: the bytes of an ANLZ file that its list of sections may depend on: the envelopes, 12 bytes each. And the bytes of a section.
 use mathlib.Core.Bool.{Bool, false, _&&_, _||_}
+use mathlib.Core.List.{List, [], _∷_}
 use Prim.Native.Nat.{ℕ, zero, suc, _+_, _-_}
 use lib.ListN.{length}
 use Rattle.lists.specs.Alias.{Bytes}
@@ -22,3 +23,8 @@ envelopeByte file i = within 0 envelope i || (headerHolds file && envelopeFrom (
 -- byte i of the file stands in a section, and passes a test as a byte of its tag
 unfoldable pub inTag : (test : (tag : Bytes) (i : ℕ) → Bool) (file : Bytes) (section : Section) (i : ℕ) → Bool
 inTag test file section i = within (section .place) (section .end - section .place) i && test (tagOf file section) (i - section .place)
+
+-- the same of one of these sections
+unfoldable pub inTags : (test : (tag : Bytes) (i : ℕ) → Bool) (file : Bytes) (these : List Section) (i : ℕ) → Bool
+inTags test file [] i = false
+inTags test file (section ∷ rest) i = inTag test file section i || inTags test file rest i

@@ -17,29 +17,29 @@ use Rattle.anlz.specs.Section.{tagOf}
 use Rattle.anlz.specs.Sections.{sections}
 use Rattle.anlz.specs.All.{allWith}
 use Rattle.anlz.specs.Element.{elementAt}
-use Rattle.anlz.specs.Bytes.{envelopeByte, inTag}
+use Rattle.anlz.specs.Bytes.{envelopeByte, inTag, inTags}
 use Rattle.anlz.proofs.SectionsAgree.{sections-agree, tag-bytes-agree}
 use Rattle.cue_list.specs.CueList.{pcob, len-cues, listsHold, allCues}
 use Rattle.cue_list.specs.Questions.{cueLists, cuesOf, cues, askCue}
 use Rattle.cue_list.proofs.CueSearch.{cue-here, cue-behind}
-use Rattle.cue_depend.specs.Bytes.{listByte, entryByte, inLists, cueByte, listsByte, relevant}
+use Rattle.cue_depend.specs.Bytes.{listByte, entryByte, cueByte, listsByte, relevant}
 use Rattle.cue_depend.proofs.ListAgree.{count-agree, holds-agree, cue-agree}
 
-module _ {s t : Bytes} (list : Section) (rest : List Section) (a : Agree (inLists listByte s (list ∷ rest)) s t) where
+module _ {s t : Bytes} (list : Section) (rest : List Section) (a : Agree (inTags listByte s (list ∷ rest)) s t) where
   first-bytes : Agree (listByte (tagOf s list)) (tagOf s list) (tagOf t list)
-  unfolding inLists
+  unfolding inTags
   first-bytes = tag-bytes-agree listByte list (agree-less (λ i e. or-left _ e) a)
 
-  rest-bytes : Agree (inLists listByte s rest) s t
-  unfolding inLists
+  rest-bytes : Agree (inTags listByte s rest) s t
+  unfolding inTags
   rest-bytes = agree-less (λ i e. or-right (inTag listByte s list i) e) a
 
-lists-agree : {s t : Bytes} (lists : List Section) → Agree (inLists listByte s lists) s t → listsHold (map (tagOf s) lists) ≡ listsHold (map (tagOf t) lists)
+lists-agree : {s t : Bytes} (lists : List Section) → Agree (inTags listByte s lists) s t → listsHold (map (tagOf s) lists) ≡ listsHold (map (tagOf t) lists)
 unfolding listsHold
 lists-agree [] a = refl
 lists-agree (list ∷ rest) a = rw (holds-agree (first-bytes list rest a), lists-agree rest (rest-bytes list rest a))
 
-cues-agree : {s t : Bytes} (k : ℕ) (lists : List Section) → Agree (inLists listByte s lists) s t → Agree (cueByte k s lists) s t
+cues-agree : {s t : Bytes} (k : ℕ) (lists : List Section) → Agree (inTags listByte s lists) s t → Agree (cueByte k s lists) s t
     → elementAt k (allCues (map (tagOf s) lists)) ≡ elementAt k (allCues (map (tagOf t) lists))
 unfolding cueByte
 cues-agree k [] a own = refl
@@ -71,11 +71,11 @@ by-sections k (refused f) a = refl
 by-sections {s} {t} k (given all) a =
     on (listsHold (cueLists s all))
     (λ h.
-    let own = agree-less (λ i e. or-right (inLists listByte s (allWith pcob all) i) (rw h e)) a in
+    let own = agree-less (λ i e. or-right (inTags listByte s (allWith pcob all) i) (rw h e)) a in
     rw (h, ← lists-agree (allWith pcob all) judged, h) (cues-agree k (allWith pcob all) judged own))
     (λ h. rw (h, ← lists-agree (allWith pcob all) judged, h))
   where
-    judged : Agree (inLists listByte s (allWith pcob all)) s t
+    judged : Agree (inTags listByte s (allWith pcob all)) s t
     judged = agree-less (λ i e. or-left _ e) a
 
 pub cue-decided : (k : ℕ) (file : Bytes) → DecidedBy (relevant k file) (λ (other : Bytes). askCue other k) file

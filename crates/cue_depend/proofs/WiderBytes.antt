@@ -14,15 +14,15 @@ use Rattle.anlz.specs.declared.Section.{Section}
 use Rattle.anlz.specs.Section.{tagOf}
 use Rattle.anlz.specs.Sections.{sections}
 use Rattle.anlz.specs.All.{allWith}
-use Rattle.anlz.specs.Bytes.{envelopeByte, inTag}
-use Rattle.anlz.proofs.SectionsAgree.{tag-among}
+use Rattle.anlz.specs.Bytes.{envelopeByte, inTag, inTags}
+use Rattle.anlz.proofs.SectionsAgree.{tag-among, tags-among}
 use Rattle.entries.specs.Entries.{entriesStart, entry, fills}
 use Rattle.entries.specs.Bytes.{inEntries}
 use Rattle.entries.proofs.EntriesAgree.{entry-behind, entries-behind}
 use Rattle.cue_list.specs.Cue.{cueSize}
 use Rattle.cue_list.specs.CueList.{pcob, len-cues, listsHold}
 use Rattle.cue_list.specs.Questions.{cueLists}
-use Rattle.cue_depend.specs.Bytes.{judgedByte, listByte, ownByte, entryByte, inLists, cueByte, listsByte, relevant, everyByte, everyListByte, everyRelevant}
+use Rattle.cue_depend.specs.Bytes.{judgedByte, listByte, ownByte, entryByte, cueByte, listsByte, relevant, everyByte, everyListByte, everyRelevant}
 
 -- what is judged of a list, and what is relevant of an entry
 module _ (tag : Bytes) (i : ℕ) where
@@ -42,16 +42,8 @@ module _ (tag : Bytes) (i : ℕ) where
       or-right (within 0x0c 4 i) (or-right (within 0x12 2 i) (le-leb entriesStart i (entry-behind (ownByte (entry cueSize tag k)) cueSize k i e)))
 
 module _ (file : Bytes) (i : ℕ) where
-  judged-among : (lists : List Section) → inLists listByte file lists i ≡ true → inLists everyByte file lists i ≡ true
-  unfolding inLists
-  judged-among [] e = e
-  judged-among (list ∷ rest) e =
-      on (inTag listByte file list i)
-      (λ h. or-left _ (tag-among listByte everyByte list-among file list i h))
-      (λ h. or-right (inTag everyByte file list i) (judged-among rest (rw h at e)))
-
-  own-among : (k : ℕ) (lists : List Section) → cueByte k file lists i ≡ true → inLists everyByte file lists i ≡ true
-  unfolding cueByte inLists
+  own-among : (k : ℕ) (lists : List Section) → cueByte k file lists i ≡ true → inTags everyByte file lists i ≡ true
+  unfolding cueByte inTags
   own-among k [] e = e
   own-among k (list ∷ rest) e =
       let count = len-cues (tagOf file list) in
@@ -61,7 +53,7 @@ module _ (file : Bytes) (i : ℕ) where
 
   sections-among : (k : ℕ) (all : Answer (List Section)) → listsByte k file all i ≡ true → everyListByte file all i ≡ true
   sections-among k (given all) e =
-      on (inLists listByte file (allWith pcob all) i) (judged-among (allWith pcob all))
+      on (inTags listByte file (allWith pcob all) i) (tags-among listByte everyByte list-among file (allWith pcob all) i)
       (λ h. own-among k (allWith pcob all) (both-true (listsHold (cueLists file all)) (cueByte k file (allWith pcob all) i) (rw h at e) .1))
   sections-among k (refused f) e = absurd (false≢true e)
 

@@ -11,7 +11,7 @@ use Rattle.anlz.specs.declared.Section.{Section}
 use Rattle.anlz.specs.Section.{tagOf}
 use Rattle.anlz.specs.Sections.{sections}
 use Rattle.anlz.specs.All.{allWith}
-use Rattle.anlz.specs.Bytes.{envelopeByte, inTag}
+use Rattle.anlz.specs.Bytes.{envelopeByte, inTag, inTags}
 use Rattle.entries.specs.Entries.{entriesStart, entry, fills}
 use Rattle.entries.specs.Bytes.{inEntry, inEntries}
 use Rattle.cue_list.specs.Cue.{cueSize, isPoint}
@@ -35,11 +35,6 @@ ownByte entry i = within 0x0c 4 i || (within 0x1c 1 i || (within 0x20 4 i || (no
 abbrev pub entryByte : (k : ℕ) (tag : Bytes) (i : ℕ) → Bool
 entryByte k tag i = inEntry (ownByte (entry cueSize tag k)) cueSize k i
 
--- byte i of the file stands in one of these lists, and passes a test as a byte of its tag
-unfoldable pub inLists : (test : (tag : Bytes) (i : ℕ) → Bool) (file : Bytes) (lists : List Section) (i : ℕ) → Bool
-inLists test file [] i = false
-inLists test file (list ∷ rest) i = inTag test file list i || inLists test file rest i
-
 -- byte i of the file stands in the entry of cue k of these lists, where they have one, and is relevant for the cue
 unfoldable pub cueByte : (k : ℕ) (file : Bytes) (lists : List Section) (i : ℕ) → Bool
 cueByte k file [] i = false
@@ -49,7 +44,7 @@ cueByte k file (list ∷ rest) i =
 -- Rule 14.30, for cue k: what is judged of every list and, where all hold, what is relevant of the entry of cue k
 abbrev pub listsByte : (k : ℕ) (file : Bytes) (all : Answer (List Section)) (i : ℕ) → Bool
 listsByte k file (given all) i =
-    inLists listByte file (allWith pcob all) i || (listsHold (cueLists file all) && cueByte k file (allWith pcob all) i)
+    inTags listByte file (allWith pcob all) i || (listsHold (cueLists file all) && cueByte k file (allWith pcob all) i)
 listsByte k file (refused f) i = false
 
 unfoldable pub relevant : (k : ℕ) (file : Bytes) (i : ℕ) → Bool
@@ -61,7 +56,7 @@ everyByte tag i = within 0x0c 4 i || (within 0x12 2 i || leb entriesStart i)
 
 -- Rule 14.31, for every k: these of each list
 abbrev pub everyListByte : (file : Bytes) (all : Answer (List Section)) (i : ℕ) → Bool
-everyListByte file (given all) i = inLists everyByte file (allWith pcob all) i
+everyListByte file (given all) i = inTags everyByte file (allWith pcob all) i
 everyListByte file (refused f) i = false
 
 unfoldable pub everyRelevant : (file : Bytes) (i : ℕ) → Bool
