@@ -1,5 +1,5 @@
-// The C interface, over numbers and slices: opening, delivery, packets, the three questions, reading from a list, and beats, cues
-// and waveforms of an ANLZ file. Each function makes one call of the library and replies to its answer (crates c_replies, c_anlz).
+// The C interface of exports, over numbers and slices: opening, delivery, packets, the three questions, and reading from a list. Each
+// function makes one call of the library and replies to its answer (crate c_replies).
 ghost use mathlib.Core.Path.{_≡_};
 ghost use Rattle.intake.specs.Open.{opening};
 ghost use Rattle.intake.specs.Memory.{memory};
@@ -9,12 +9,8 @@ ghost use Rattle.export.specs.Rows.{askRows};
 ghost use Rattle.export.specs.Record.{askRecord};
 ghost use Rattle.export.specs.Text.{askText};
 ghost use Rattle.export.specs.FromList.{askRecordIn, askTextIn};
-ghost use Rattle.beat_grid.specs.Questions.{askBeats, askBeat};
-ghost use Rattle.cue_list.specs.Questions.{askCue};
-ghost use Rattle.waveform.specs.Questions.{askWave};
 ghost use Rattle.c_reply.specs.Reply.{replyTo, Replied};
 ghost use Rattle.c_replies.specs.Replies.{openReply, deliverReply, packetReply, walkReply, recordReply, textReply};
-ghost use Rattle.c_anlz.specs.Replies.{beatsReply, beatReply, cueReply, waveReply};
 use intake::Intake;
 
 // Opens an intake for a file of len bytes.
@@ -185,36 +181,4 @@ pub extern "C" fn sarvoltig_text_in(
         ),
         result,
     )
-}
-
-// Asks for the number of beats in the grid of an ANLZ file.
-#[no_mangle]
-pub extern "C" fn sarvoltig_beats(file: &[u8], result: &mut [u64]) -> u32
-    ensures { λ r. ⌜ Replied (replyTo beatsReply (askBeats (now (file .entry)))) r (now (result .entry)) (now (result .exit)) ⌝ }
-{
-    c_anlz::reply_beats(beat_grid::beats(file), result)
-}
-
-// Asks for beat k in the grid of an ANLZ file.
-#[no_mangle]
-pub extern "C" fn sarvoltig_beat(file: &[u8], k: u64, result: &mut [u64]) -> u32
-    ensures { λ r. ⌜ Replied (replyTo beatReply (askBeat (now (file .entry)) k)) r (now (result .entry)) (now (result .exit)) ⌝ }
-{
-    c_anlz::reply_beat(beat_grid::beat(file, k), result)
-}
-
-// Asks for cue k of an ANLZ file, counted through all its cue lists.
-#[no_mangle]
-pub extern "C" fn sarvoltig_cue(file: &[u8], k: u64, result: &mut [u64]) -> u32
-    ensures { λ r. ⌜ Replied (replyTo cueReply (askCue (now (file .entry)) k)) r (now (result .entry)) (now (result .exit)) ⌝ }
-{
-    c_anlz::reply_cue(cue_list::cue_at(file, k), result)
-}
-
-// Asks for entry k of the waveform of a sort in an ANLZ file.
-#[no_mangle]
-pub extern "C" fn sarvoltig_wave(file: &[u8], sort: u64, k: u64, result: &mut [u64]) -> u32
-    ensures { λ r. ⌜ Replied (replyTo waveReply (askWave (now (file .entry)) sort k)) r (now (result .entry)) (now (result .exit)) ⌝ }
-{
-    c_anlz::reply_wave(waveform::entry(file, sort, k), result)
 }

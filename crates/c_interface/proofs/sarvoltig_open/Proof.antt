@@ -4,7 +4,7 @@ use borrow.Author.Needs.{needs}
 use Rattle.intake.specs.Open.{Opening}
 use Rattle.c_reply.specs.Reply.{replyTo}
 use Rattle.c_replies.specs.Replies.{openReply}
-use Rattle.c_interface.proofs.ReplyCarriesOver.{replied}
+use Rattle.c_reply.proofs.ReplyCarriesOver.{replied}
 use Rattle.c_interface.proofs.sarvoltig_open.Statement.{statement}
 use Rattle.c_interface.proofs.sarvoltig_open.Tie as tie
 

@@ -3,7 +3,7 @@ use mathlib.Core.Path.{ap}
 use Rattle.intake.specs.Packet.{PacketOutcome}
 use Rattle.c_reply.specs.Reply.{replyTo}
 use Rattle.c_replies.specs.Replies.{packetReply}
-use Rattle.c_interface.proofs.ReplyCarriesOver.{replied}
+use Rattle.c_reply.proofs.ReplyCarriesOver.{replied}
 use borrow.Author.Needs.{needs}
 use Rattle.c_interface.proofs.sarvoltig_packet.Statement.{statement}
 use Rattle.c_interface.proofs.sarvoltig_packet.Tie as tie

@@ -4,7 +4,7 @@ use borrow.Author.Needs.{needs}
 use Rattle.export.specs.Rows.{RowsOutcome}
 use Rattle.c_reply.specs.Reply.{replyTo}
 use Rattle.c_replies.specs.Replies.{walkReply}
-use Rattle.c_interface.proofs.ReplyCarriesOver.{replied}
+use Rattle.c_reply.proofs.ReplyCarriesOver.{replied}
 use Rattle.c_interface.proofs.sarvoltig_rows.Statement.{statement}
 use Rattle.c_interface.proofs.sarvoltig_rows.Tie as tie
 

@@ -2,7 +2,7 @@
 use borrow.Author.Needs.{needs}
 use Rattle.c_reply.specs.Reply.{replyTo}
 use Rattle.c_replies.specs.Replies.{textReply}
-use Rattle.c_interface.proofs.ReplyCarriesOver.{replied}
+use Rattle.c_reply.proofs.ReplyCarriesOver.{replied}
 use Rattle.c_interface.proofs.sarvoltig_text.Statement.{statement}
 use Rattle.c_interface.proofs.sarvoltig_text.Tie as tie
 

@@ -1,10 +1,10 @@
 -- `sarvoltig_cue` meets its contract: `cue_list::cue_at` gives the answer, and `reply_cue` its code and values.
 use Rattle.c_reply.specs.Reply.{replyTo}
 use Rattle.c_anlz.specs.Replies.{cueReply}
-use Rattle.c_interface.proofs.ReplyCarriesOver.{replied}
+use Rattle.c_reply.proofs.ReplyCarriesOver.{replied}
 use borrow.Author.Needs.{needs}
-use Rattle.c_interface.proofs.sarvoltig_cue.Statement.{statement}
-use Rattle.c_interface.proofs.sarvoltig_cue.Tie as tie
+use Rattle.c_anlz_interface.proofs.sarvoltig_cue.Statement.{statement}
+use Rattle.c_anlz_interface.proofs.sarvoltig_cue.Tie as tie
 
 cue-at-requires : tie.Need-cue-at-requires
 cue-at-requires c κs = search needs

@@ -1,10 +1,10 @@
 -- `sarvoltig_beats` meets its contract: `beat_grid::beats` gives the answer, and `reply_beats` its code and values.
 use Rattle.c_reply.specs.Reply.{replyTo}
 use Rattle.c_anlz.specs.Replies.{beatsReply}
-use Rattle.c_interface.proofs.ReplyCarriesOver.{replied}
+use Rattle.c_reply.proofs.ReplyCarriesOver.{replied}
 use borrow.Author.Needs.{needs}
-use Rattle.c_interface.proofs.sarvoltig_beats.Statement.{statement}
-use Rattle.c_interface.proofs.sarvoltig_beats.Tie as tie
+use Rattle.c_anlz_interface.proofs.sarvoltig_beats.Statement.{statement}
+use Rattle.c_anlz_interface.proofs.sarvoltig_beats.Tie as tie
 
 beats-requires : tie.Need-beats-requires
 beats-requires c κs = search needs

@@ -1,10 +1,10 @@
 -- `sarvoltig_beat` meets its contract: `beat_grid::beat` gives the answer, and `reply_beat` its code and values.
 use Rattle.c_reply.specs.Reply.{replyTo}
 use Rattle.c_anlz.specs.Replies.{beatReply}
-use Rattle.c_interface.proofs.ReplyCarriesOver.{replied}
+use Rattle.c_reply.proofs.ReplyCarriesOver.{replied}
 use borrow.Author.Needs.{needs}
-use Rattle.c_interface.proofs.sarvoltig_beat.Statement.{statement}
-use Rattle.c_interface.proofs.sarvoltig_beat.Tie as tie
+use Rattle.c_anlz_interface.proofs.sarvoltig_beat.Statement.{statement}
+use Rattle.c_anlz_interface.proofs.sarvoltig_beat.Tie as tie
 
 beat-requires : tie.Need-beat-requires
 beat-requires c κs = search needs

@@ -1,10 +1,10 @@
 -- `sarvoltig_wave` meets its contract: `waveform::entry` gives the answer, and `reply_wave` its code and values.
 use Rattle.c_reply.specs.Reply.{replyTo}
 use Rattle.c_anlz.specs.Replies.{waveReply}
-use Rattle.c_interface.proofs.ReplyCarriesOver.{replied}
+use Rattle.c_reply.proofs.ReplyCarriesOver.{replied}
 use borrow.Author.Needs.{needs}
-use Rattle.c_interface.proofs.sarvoltig_wave.Statement.{statement}
-use Rattle.c_interface.proofs.sarvoltig_wave.Tie as tie
+use Rattle.c_anlz_interface.proofs.sarvoltig_wave.Statement.{statement}
+use Rattle.c_anlz_interface.proofs.sarvoltig_wave.Tie as tie
 
 entry-requires : tie.Need-entry-requires
 entry-requires c κs = search needs
