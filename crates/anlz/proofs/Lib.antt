@@ -3,11 +3,11 @@
 --     FileStart                     where the sections start
 --     NextSection                   what stands at a place: the end, a section whole inside the file, or a broken one
 --     StepsEnough                   the steps of the definition suffice
---     FileFilled                     the sections fill the file
+--     FileFilled                    the sections fill the file
 --     SectionsLoop                  going through the sections
 --     FirstLoop                     going through them for a code
 --     ElementAt                     an element of a list by its number
---     SectionsAgree                 files that agree on the envelopes have the same sections
+--     SectionsAgree                 files that agree on the envelopes have the same sections, and on bytes of a section such tags
 pub mod HeaderTests
 pub mod SectionTests
 pub mod FileStart

@@ -1,18 +1,18 @@
 -- Rule 14.16: two files of one length that agree on the envelopes have the same sections (`sections-agree`), and so the same first
 -- section with a code (`first-agree`). Files that agree on bytes of a section have tags that do
--- (`tag-bytes-agree`), and where bytes of a tag are among others, so are those of the file (`tag-among`,
--- `tags-among`). Rests on what stands at a place (StepsEnough) and on numbers that agree (crate number).
+-- (`tag-bytes-agree`), also of several sections (`first-tag-agree`, `rest-tags-agree`); and where bytes of a tag are among others, so are those
+-- of the file (`tag-among`, `tags-among`). Rests on what stands at a place (StepsEnough) and on numbers that agree (crate number).
 use mathlib.Core.Path.{_≡_, refl, sym, _∙_}
 use mathlib.Core.Bool.{Bool, true}
 use mathlib.Core.List.{List, [], _∷_}
-use Prim.Native.Nat.{ℕ, zero, suc, _+_, _-_, _<_, _≤_}
+use Prim.Native.Nat.{ℕ, zero, suc, _+_, _-_, _≤_}
 use native.Mathlib.Omega.{arith}
 use lib.ListN.{length}
 use Rattle.lists.specs.Alias.{Bytes}
-use Rattle.lists.proofs.Choice.{on, or-left, or-right, both-true}
+use Rattle.lists.proofs.Choice.{on, or-left, or-right}
 use Rattle.number.specs.Number.{be32}
 use Rattle.number.specs.Agree.{Agree, within}
-use Rattle.number.proofs.NumberAgree.{within-true, within-less, agree-less, be32-agree, part-agree}
+use Rattle.number.proofs.NumberAgree.{within-less, agree-less, be32-agree, in-part-agree, in-part-among}
 use Rattle.anlz.specs.declared.Section.{Section}
 use Rattle.anlz.specs.Header.{envelope, headerHolds, len-header}
 use Rattle.anlz.specs.Section.{sectionHolds, sectionAt, len-tag, tagOf}
@@ -78,33 +78,28 @@ module _ {s t : Bytes} (a : Agree (envelopeByte s) s t) where
 
 pub tag-bytes-agree : (test : Bytes → ℕ → Bool) {s t : Bytes} (section : Section) → Agree (inTag test s section) s t
     → Agree (test (tagOf s section)) (tagOf s section) (tagOf t section)
-unfolding inTag
-tag-bytes-agree test {s} section a = part-agree place size byte a
-  where
-    place : ℕ
-    place = section .place
+tag-bytes-agree test {s} section a = in-part-agree (test (tagOf s section)) (section .place) (section .end - section .place) a
 
-    size : ℕ
-    size = section .end - place
+-- of several sections: the first, and the others
+module _ (test : Bytes → ℕ → Bool) {s t : Bytes} (section : Section) (rest : List Section) (a : Agree (inTags test s (section ∷ rest)) s t) where
+  pub first-tag-agree : Agree (test (tagOf s section)) (tagOf s section) (tagOf t section)
+  unfolding inTags
+  first-tag-agree = tag-bytes-agree test section (agree-less (λ i e. or-left _ e) a)
 
-    byte : (i : ℕ) → i < size → test (tagOf s section) i ≡ true → inTag test s section (place + i) ≡ true
-    byte i h e =
-        let back : i ≡ place + i - place = omega arith in
-        rw (within-true place size (place + i) (omega arith) (omega arith)) (rw back at e)
+  pub rest-tags-agree : Agree (inTags test s rest) s t
+  unfolding inTags
+  rest-tags-agree = agree-less (λ i e. or-right (inTag test s section i) e) a
 
-pub tag-among : (fewer more : Bytes → ℕ → Bool) → ((tag : Bytes) (i : ℕ) → fewer tag i ≡ true → more tag i ≡ true)
-    → (file : Bytes) (section : Section) (i : ℕ) → inTag fewer file section i ≡ true → inTag more file section i ≡ true
-unfolding inTag
-tag-among fewer more among file section i e =
-    let inside = within (section .place) (section .end - section .place) i in
-    let both = both-true inside (fewer (tagOf file section) (i - section .place)) e in
-    rw (both .0) (among (tagOf file section) (i - section .place) (both .1))
+module _ (fewer more : Bytes → ℕ → Bool) (among : (tag : Bytes) (i : ℕ) → fewer tag i ≡ true → more tag i ≡ true) (file : Bytes) where
+  pub tag-among : (section : Section) (i : ℕ) → inTag fewer file section i ≡ true → inTag more file section i ≡ true
+  tag-among section i e =
+      in-part-among (fewer (tagOf file section)) (more (tagOf file section)) (section .place) (section .end - section .place) i
+      (among (tagOf file section) (i - section .place)) e
 
-pub tags-among : (fewer more : Bytes → ℕ → Bool) → ((tag : Bytes) (i : ℕ) → fewer tag i ≡ true → more tag i ≡ true)
-    → (file : Bytes) (these : List Section) (i : ℕ) → inTags fewer file these i ≡ true → inTags more file these i ≡ true
-unfolding inTags
-tags-among fewer more among file [] i e = e
-tags-among fewer more among file (section ∷ rest) i e =
-    on (inTag fewer file section i)
-    (λ h. or-left _ (tag-among fewer more among file section i h))
-    (λ h. or-right (inTag more file section i) (tags-among fewer more among file rest i (rw h at e)))
+  pub tags-among : (these : List Section) (i : ℕ) → inTags fewer file these i ≡ true → inTags more file these i ≡ true
+  unfolding inTags
+  tags-among [] i e = e
+  tags-among (section ∷ rest) i e =
+      on (inTag fewer file section i)
+      (λ h. or-left _ (tag-among section i h))
+      (λ h. or-right (inTag more file section i) (tags-among rest i (rw h at e)))

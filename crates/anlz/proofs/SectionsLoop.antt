@@ -1,5 +1,5 @@
 -- Rule 14.6: going through the sections of a file: the answer is what is made of the sections left, and a broken one refuses it. What is
--- made of them is told by a function (`rest`), which may change from section to section.
+-- made of them is a function (`rest`), which may change from section to section.
 use mathlib.Core.Path.{_≡_, refl, sym, _∙_}
 use mathlib.Core.List.{List, [], _∷_}
 use mathlib.Core.Option.{Option, none, some}

@@ -1,4 +1,4 @@
--- Rule 14.14: element k of a list, counted from 0; 18 where there is none.
+-- Rules 14.14 and 14.24: element k of a list, counted from 0; 18 where there is none.
 use mathlib.Core.List.{List, [], _∷_}
 use Prim.Native.Nat.{ℕ, zero, suc}
 use Rattle.refusal.specs.Fault.{fault}

@@ -5,7 +5,7 @@
 --     SectionsFill, Long         what holds of them
 --     First, All                 the first section with a code, and every one
 --     Element                    an element of a list by its number
---     Bytes                      the bytes that the sections depend on
+--     Bytes                      the bytes that the sections depend on, and the bytes of a section
 --     Private                    what only private functions cite
 pub mod Fault
 pub mod Header

@@ -7,7 +7,7 @@ use mathlib.Core.Option.{Option, none, some}
 use Prim.Native.Nat.{ℕ}
 use lib.Dec.{eqb}
 use Rattle.lists.specs.Alias.{Bytes}
-use Rattle.lists.proofs.Choice.{on, never, or-left, or-right}
+use Rattle.lists.proofs.Choice.{on, never, or-left, or-more}
 use Rattle.refusal.specs.Answer.{Answer, given, refused, andThen}
 use Rattle.anlz.specs.declared.Section.{Section}
 use Rattle.anlz.specs.Sections.{sections}
@@ -22,14 +22,10 @@ use Rattle.cue_list.specs.CueList.{pcob}
 use Rattle.cue_depend.specs.Bytes.{everyByte, everyListByte, everyRelevant}
 use Rattle.waveform.specs.declared.Wave.{Wave}
 use Rattle.waveform.specs.Sort.{sortOf, waveCode}
-use Rattle.waveform.specs.Questions.{orAbsent, waveSection}
+use Rattle.waveform.specs.Questions.{orAbsent}
 use Rattle.wave_depend.specs.Bytes.{askedSection, inAsked}
 use Rattle.wave_depend.specs.Bytes as wave
-use Rattle.anlz_depend.specs.Bytes.{inCode, codeByte}
-
--- any byte of a tag
-abbrev anyByte : Bytes → ℕ → Bool
-anyByte tag j = true
+use Rattle.anlz_depend.specs.Bytes.{anyByte, inCode, codeByte}
 
 -- the first section with a code is one of those with it
 first-own : (test : Bytes → ℕ → Bool) (file : Bytes) (i code : ℕ) (all : List Section) (section : Section) → firstWith code all ≡ some section
@@ -43,12 +39,11 @@ first-own test file i code (x ∷ rest) section f e =
     rw h (or-left _ (tag-among test anyByte (λ tag j q. refl) file x i (rw same e))))
     (λ h. rw h (first-own test file i code rest section (rw h at f) e))
 
--- where bytes of the sections stand in those of a code, so do they beside the envelopes
-beside : (file : Bytes) (code i : ℕ) (other : Bool) → (other ≡ true → inCode code file (sections file) i ≡ true)
+-- what stands in an envelope, or in a section with the code
+envelope-or-own : (file : Bytes) (code i : ℕ) (other : Bool) → (other ≡ true → inCode code file (sections file) i ≡ true)
     → (envelopeByte file i || other) ≡ true → codeByte code file i ≡ true
 unfolding codeByte
-beside file code i other own e =
-    on (envelopeByte file i) (λ h. or-left _ h) (λ h. or-right (envelopeByte file i) (own (rw h at e)))
+envelope-or-own file code i other own e = or-more (envelopeByte file i) own e
 
 grid-in : (file : Bytes) (i : ℕ) (all : Answer (List Section)) (test : Bytes → ℕ → Bool)
     → inGrid test file (andThen (andThen all (λ (x : List Section). given (firstWith pqtz x))) needed) i ≡ true → inCode pqtz file all i ≡ true
@@ -61,7 +56,7 @@ grid-in file i (given all) test e = by (firstWith pqtz all) refl e
 
 pub grid-own : (test : Bytes → ℕ → Bool) (file : Bytes) (i : ℕ) → grid.relevant test file i ≡ true → codeByte pqtz file i ≡ true
 unfolding grid.relevant gridSection firstSection
-grid-own test file i = beside file pqtz i _ (grid-in file i (sections file) test)
+grid-own test file i = envelope-or-own file pqtz i _ (grid-in file i (sections file) test)
 
 cues-in : (file : Bytes) (i : ℕ) (all : Answer (List Section)) → everyListByte file all i ≡ true → inCode pcob file all i ≡ true
 cues-in file i (refused f) e = absurd (false≢true e)
@@ -69,7 +64,7 @@ cues-in file i (given all) e = tags-among everyByte anyByte (λ tag j q. refl) f
 
 pub cues-own : (file : Bytes) (i : ℕ) → everyRelevant file i ≡ true → codeByte pcob file i ≡ true
 unfolding everyRelevant
-cues-own file i = beside file pcob i _ (cues-in file i (sections file))
+cues-own file i = envelope-or-own file pcob i _ (cues-in file i (sections file))
 
 wave-in : (file : Bytes) (i number : ℕ) {w : Wave} (all : Answer (List Section)) → sortOf number ≡ some w
     → inAsked file (andThen all (askedSection number)) i ≡ true → inCode (waveCode w) file all i ≡ true
@@ -84,4 +79,4 @@ wave-in file i number {w} (given all) k e = by (firstWith (waveCode w) all) refl
 pub wave-own : (number : ℕ) {w : Wave} (file : Bytes) (i : ℕ) → sortOf number ≡ some w → wave.relevant number file i ≡ true
     → codeByte (waveCode w) file i ≡ true
 unfolding wave.relevant
-wave-own number {w} file i k = beside file (waveCode w) i _ (wave-in file i number (sections file) k)
+wave-own number {w} file i k = envelope-or-own file (waveCode w) i _ (wave-in file i number (sections file) k)

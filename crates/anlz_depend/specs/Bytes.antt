@@ -9,9 +9,13 @@ use Rattle.anlz.specs.Sections.{sections}
 use Rattle.anlz.specs.All.{allWith}
 use Rattle.anlz.specs.Bytes.{envelopeByte, inTags}
 
+-- every byte of a tag
+abbrev pub anyByte : (tag : Bytes) (i : ℕ) → Bool
+anyByte tag i = true
+
 -- byte i of the file stands in one of these sections that has the code
 abbrev pub inCode : (code : ℕ) (file : Bytes) (all : Answer (List Section)) (i : ℕ) → Bool
-inCode code file (given all) i = inTags (λ (tag : Bytes) (j : ℕ). true) file (allWith code all) i
+inCode code file (given all) i = inTags anyByte file (allWith code all) i
 inCode code file (refused f) i = false
 
 -- byte i stands in an envelope, or in a section with the code

@@ -1,1 +1,1 @@
-// What beats, cues and waveforms of one ANLZ file have to do with one another: definitions and proofs only.
+// Answers about beats, cues and waveforms of an ANLZ file depend on sections of their own code: definitions and proofs only.

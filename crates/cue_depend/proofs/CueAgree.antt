@@ -2,7 +2,6 @@
 -- (`cues-agree`), so the same answer (`cue-decided`). Rests on lists that agree (ListAgree) and on the sections of files that agree on the
 -- envelopes (anlz/SectionsAgree).
 use mathlib.Core.Path.{_≡_, refl, sym, _∙_}
-use mathlib.Core.Bool.{true, false, _&&_, _||_, cond}
 use mathlib.Core.List.{List, [], _∷_, map}
 use Prim.Native.Nat.{ℕ, _-_}
 use lib.Dec.{leb}
@@ -17,27 +16,18 @@ use Rattle.anlz.specs.Section.{tagOf}
 use Rattle.anlz.specs.Sections.{sections}
 use Rattle.anlz.specs.All.{allWith}
 use Rattle.anlz.specs.Element.{elementAt}
-use Rattle.anlz.specs.Bytes.{envelopeByte, inTag, inTags}
-use Rattle.anlz.proofs.SectionsAgree.{sections-agree, tag-bytes-agree}
+use Rattle.anlz.specs.Bytes.{envelopeByte, inTags}
+use Rattle.anlz.proofs.SectionsAgree.{sections-agree, tag-bytes-agree, first-tag-agree, rest-tags-agree}
 use Rattle.cue_list.specs.CueList.{pcob, len-cues, listsHold, allCues}
 use Rattle.cue_list.specs.Questions.{cueLists, cuesOf, cues, askCue}
 use Rattle.cue_list.proofs.CueSearch.{cue-here, cue-behind}
 use Rattle.cue_depend.specs.Bytes.{listByte, entryByte, cueByte, listsByte, relevant}
 use Rattle.cue_depend.proofs.ListAgree.{count-agree, holds-agree, cue-agree}
 
-module _ {s t : Bytes} (list : Section) (rest : List Section) (a : Agree (inTags listByte s (list ∷ rest)) s t) where
-  first-bytes : Agree (listByte (tagOf s list)) (tagOf s list) (tagOf t list)
-  unfolding inTags
-  first-bytes = tag-bytes-agree listByte list (agree-less (λ i e. or-left _ e) a)
-
-  rest-bytes : Agree (inTags listByte s rest) s t
-  unfolding inTags
-  rest-bytes = agree-less (λ i e. or-right (inTag listByte s list i) e) a
-
 lists-agree : {s t : Bytes} (lists : List Section) → Agree (inTags listByte s lists) s t → listsHold (map (tagOf s) lists) ≡ listsHold (map (tagOf t) lists)
 unfolding listsHold
 lists-agree [] a = refl
-lists-agree (list ∷ rest) a = rw (holds-agree (first-bytes list rest a), lists-agree rest (rest-bytes list rest a))
+lists-agree (list ∷ rest) a = rw (holds-agree (first-tag-agree listByte list rest a), lists-agree rest (rest-tags-agree listByte list rest a))
 
 cues-agree : {s t : Bytes} (k : ℕ) (lists : List Section) → Agree (inTags listByte s lists) s t → Agree (cueByte k s lists) s t
     → elementAt k (allCues (map (tagOf s) lists)) ≡ elementAt k (allCues (map (tagOf t) lists))
@@ -47,20 +37,20 @@ cues-agree {s} {t} k (list ∷ rest) a own =
     on (leb count k)
     (λ h.
     let past = leb-true count k h in
-    let later = cues-agree (k - count) rest (rest-bytes list rest a) (agree-less (λ i e. rw h e) own) in
+    let later = cues-agree (k - count) rest (rest-tags-agree listByte list rest a) (agree-less (λ i e. rw h e) own) in
     cue-behind (tagOf s list) (map (tagOf s) rest) k past ∙ later
     ∙ rw same (sym (cue-behind (tagOf t list) (map (tagOf t) rest) k (rw same at past))))
     (λ h.
     let inside = leb-false count k h in
     let here = tag-bytes-agree (entryByte k) list (agree-less (λ i e. rw h e) own) in
-    cue-here (tagOf s list) (map (tagOf s) rest) k inside ∙ rw (cue-agree k (first-bytes list rest a) here)
+    cue-here (tagOf s list) (map (tagOf s) rest) k inside ∙ rw (cue-agree k (first-tag-agree listByte list rest a) here)
     (sym (cue-here (tagOf t list) (map (tagOf t) rest) k (rw same at inside))))
   where
     count : ℕ
     count = len-cues (tagOf s list)
 
     same : len-cues (tagOf s list) ≡ len-cues (tagOf t list)
-    same = count-agree (first-bytes list rest a)
+    same = count-agree (first-tag-agree listByte list rest a)
 
 -- the cues of the sections of two files
 by-sections : {s t : Bytes} (k : ℕ) (all : Answer (List Section)) → Agree (listsByte k s all) s t

@@ -1,17 +1,15 @@
 -- Rule 14.30: two tags of one length that agree on the relevant bytes of a list both hold or do not (`holds-agree`), and those that also
 -- agree on the relevant bytes of an entry have the same cue there (`cue-agree`). Rests on entries that agree (entries/EntriesAgree).
-use mathlib.Core.Path.{_≡_, refl}
-use mathlib.Core.Bool.{true, false, not, _&&_, _||_, cond}
-use Prim.Native.Nat.{ℕ, _+_, _≤_}
-use native.Mathlib.Omega.{arith}
+use mathlib.Core.Path.{_≡_}
+use mathlib.Core.Bool.{true}
+use Prim.Native.Nat.{ℕ}
 use Rattle.lists.specs.Alias.{Bytes}
 use Rattle.lists.proofs.Choice.{on, or-left, or-right}
 use Rattle.number.specs.Agree.{Agree, DecidedBy, within}
 use Rattle.number.proofs.NumberAgree.{agree-less, byte-agree, be16-agree, be32-agree}
-use Rattle.entries.specs.Entries.{entry, entries, fills}
-use Rattle.entries.specs.Every.{everyEntry}
+use Rattle.entries.specs.Entries.{entry, fills}
 use Rattle.entries.specs.Bytes.{inEntries}
-use Rattle.entries.proofs.EntriesAgree.{entry-agree, every-agree}
+use Rattle.entries.proofs.EntriesAgree.{fills-agree, entry-agree, every-agree}
 use Rattle.cue_list.specs.declared.CueListType.{CueListType}
 use Rattle.cue_list.specs.Cue.{cueSize, hot-cue, isPoint, cueHolds, positionOf, cueOf}
 use Rattle.cue_list.specs.CueList.{list-type, len-cues, listHolds, listTypeOf}
@@ -36,9 +34,8 @@ module _ {s t : Bytes} (a : Agree (listByte s) s t) where
   unfolding listByte
   count-agree = be16-agree 0x12 (agree-less (λ i e. or-right (within 0x0c 4 i) (or-left _ e)) a)
 
-  fills-agree : fills cueSize (len-cues s) s ≡ fills cueSize (len-cues s) t
-  unfolding fills
-  fills-agree = rw (a .long)
+  filled-agree : fills cueSize (len-cues s) s ≡ fills cueSize (len-cues s) t
+  filled-agree = fills-agree cueSize (len-cues s) a
 
   entry-bytes : fills cueSize (len-cues s) s ≡ true → Agree (inEntries judgedByte cueSize (len-cues s)) s t
   unfolding listByte
@@ -50,8 +47,8 @@ module _ {s t : Bytes} (a : Agree (listByte s) s t) where
       on (fills cueSize (len-cues s) s)
       (λ f.
       let all = every-agree judgedByte cueSize cueHolds judged-decides (len-cues s) (entry-bytes f) in
-      rw (← type-agree, ← count-agree, ← fills-agree, all))
-      (λ f. rw (← type-agree, ← count-agree, ← fills-agree, f))
+      rw (← type-agree, ← count-agree, ← filled-agree, all))
+      (λ f. rw (← type-agree, ← count-agree, ← filled-agree, f))
 
   pub list-type-agree : listTypeOf s ≡ listTypeOf t
   unfolding listTypeOf

@@ -1,13 +1,13 @@
 -- Rule 14.31: the bytes that are relevant for cue k are among those that are said to be relevant for every cue (`cue-among`). Rests on the
 -- definitions, and on entries standing from byte `18` on (entries/EntriesAgree).
 use mathlib.Core.Path.{_≡_}
-use mathlib.Core.Bool.{Bool, true, false, false≢true, _&&_, _||_, cond}
+use mathlib.Core.Bool.{true, false≢true}
 use mathlib.Core.List.{List, [], _∷_}
 use Prim.Native.Nat.{ℕ, _-_}
 use lib.Dec.{leb}
 use borrow.Author.Tests.{le-leb}
 use Rattle.lists.specs.Alias.{Bytes}
-use Rattle.lists.proofs.Choice.{on, both-true, or-left, or-right}
+use Rattle.lists.proofs.Choice.{on, both-true, or-left, or-right, or-more}
 use Rattle.number.specs.Agree.{within}
 use Rattle.refusal.specs.Answer.{Answer, given, refused}
 use Rattle.anlz.specs.declared.Section.{Section}
@@ -59,6 +59,4 @@ module _ (file : Bytes) (i : ℕ) where
 
 pub cue-among : (k : ℕ) (file : Bytes) (i : ℕ) → relevant k file i ≡ true → everyRelevant file i ≡ true
 unfolding relevant everyRelevant
-cue-among k file i e =
-    on (envelopeByte file i) (λ h. or-left _ h)
-    (λ h. or-right (envelopeByte file i) (sections-among file i k (sections file) (rw h at e)))
+cue-among k file i e = or-more (envelopeByte file i) (sections-among file i k (sections file)) e

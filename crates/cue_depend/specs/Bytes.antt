@@ -35,7 +35,8 @@ ownByte entry i = within 0x0c 4 i || (within 0x1c 1 i || (within 0x20 4 i || (no
 abbrev pub entryByte : (k : ℕ) (tag : Bytes) (i : ℕ) → Bool
 entryByte k tag i = inEntry (ownByte (entry cueSize tag k)) cueSize k i
 
--- byte i of the file stands in the entry of cue k of these lists, where they have one, and is relevant for the cue
+-- byte i of the file stands in the entry of cue k of these lists, where they have one, and is relevant for the cue. A cue behind the first
+-- list has its number less that list's cues in the lists behind it
 unfoldable pub cueByte : (k : ℕ) (file : Bytes) (lists : List Section) (i : ℕ) → Bool
 cueByte k file [] i = false
 cueByte k file (list ∷ rest) i =

@@ -27,7 +27,7 @@ use Rattle.cue_list.specs.declared.Search.the-variants as search
 use Rattle.cue_list.specs.Cue.{cueSize, cueOf}
 use Rattle.cue_list.specs.CueList.{pcob, len-cues, listTypeOf, listHolds, cuesIn, listsHold, allCues}
 use Rattle.cue_list.specs.Questions.{cueLists, cuesOf, cues, askCue}
-use Rattle.cue_list.specs.Private.{passed, searchedGood, searched, searchedSection, ended, cueFrom}
+use Rattle.cue_list.specs.Private.{searchedGood, searched, searchedSection, ended, cueFrom}
 
 -- the cues of a list: their number, and cue k
 module _ (tag : Bytes) where
@@ -47,7 +47,7 @@ module _ (tag : Bytes) (tags : List Bytes) (k : ℕ) where
   unfolding allCues
   cue-behind h = rw (cues-counted tag) at (element-behind k (cuesIn tag) (allCues tags) (rw (cues-counted tag) h))
 
--- the answer, where the search says this and these lists are left
+-- the answer, where the search has come so far and these lists are left
 abbrev answerLeft : Search → (tags : List Bytes) → Answer Cue
 answerLeft (search.Left k) tags = andThen (cuesOf tags) (elementAt k)
 answerLeft (search.Found cue) tags = refuseIf (not (listsHold tags)) (fault 26 0) (given cue)
@@ -65,11 +65,6 @@ module _ (tag : Bytes) (tags : List Bytes) where
   answer-bad (search.Left k) e = rw e
   answer-bad (search.Found cue) e = rw e
   answer-bad search.BadList e = refl
-
-  -- a list that holds: the verdict is that on the lists behind it
-  cues-more : listHolds tag ≡ true → cuesOf (tag ∷ tags) ≡ refuseIf (not (listsHold tags)) (fault 26 0) (given (allCues (tag ∷ tags)))
-  unfolding cuesOf listsHold
-  cues-more e = rw e
 
   answer-good : (s : Search) → listHolds tag ≡ true → answerLeft s (tag ∷ tags) ≡ answerLeft (searchedGood s tag) tags
   unfolding cuesOf listsHold

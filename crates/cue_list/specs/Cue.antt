@@ -1,4 +1,4 @@
--- Rule 14.22: an entry of a cue list, its fields in file order under the published names, when it is one, and the cue that it is.
+-- Rule 14.22: an entry of a cue list, its fields in file order under the published names, when it holds, and the cue that it is.
 use mathlib.Core.Bool.{Bool, _&&_, _||_, cond}
 use Prim.Native.Nat.{ℕ}
 use lib.Dec.{eqb}

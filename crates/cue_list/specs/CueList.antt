@@ -1,4 +1,4 @@
--- Rules 14.20, 14.21 and 14.23: a cue list, which is a section PCOB: its fields, when it is one, and its cues in order.
+-- Rules 14.20, 14.21, 14.23 and 14.24: a cue list, which is a section PCOB: its fields, when it holds, and its cues in order.
 use mathlib.Core.Bool.{Bool, true, _&&_, _||_, cond}
 use mathlib.Core.List.{List, [], _∷_, _++_, map}
 use Prim.Native.Nat.{ℕ}
@@ -33,7 +33,7 @@ isMemory tag = eqb (list-type tag) 0
 abbrev pub isHot : (tag : Bytes) → Bool
 isHot tag = eqb (list-type tag) 1
 
--- is true exactly when there is such a type, the entries fill the section, and each of them holds
+-- is true exactly when the type is 0 or 1, the entries fill the section, and each of them holds
 unfoldable pub listHolds : (tag : Bytes) → Bool
 listHolds tag = (isMemory tag || isHot tag) && (fills cueSize (len-cues tag) tag && everyEntry cueHolds (cueEntries tag))
 

@@ -18,21 +18,21 @@ use Rattle.cue_list.specs.Cue.{cueSize, cueOf}
 use Rattle.cue_list.specs.CueList.{pcob, len-cues, listTypeOf, listHolds}
 use Rattle.cue_list.specs.Questions.{cueLists, cuesOf}
 
--- what the search says with one list more, a good one, where k cues are to be passed over
+-- the search after one list more, a good one, where k cues are to be passed over
 abbrev pub passed : (k : ℕ) (tag : Bytes) → Search
 passed k tag = cond (leb (len-cues tag) k) (search.Left (k - len-cues tag)) (search.Found (cueOf (listTypeOf tag) (entry cueSize tag k)))
 
--- the same of any search, with a good list
+-- the same of any search
 abbrev pub searchedGood : Search → (tag : Bytes) → Search
 searchedGood (search.Left k) tag = passed k tag
 searchedGood (search.Found cue) tag = search.Found cue
 searchedGood search.BadList tag = search.BadList
 
--- the same with any list
+-- the search after any list
 unfoldable pub searched : Search → (tag : Bytes) → Search
 searched s tag = cond (listHolds tag) (searchedGood s tag) search.BadList
 
--- the same with any section
+-- the search after any section
 unfoldable pub searchedSection : Search → (file : Bytes) → Section → Search
 searchedSection s file section = cond (eqb (section .code) pcob) (searched s (tagOf file section)) s
 

@@ -46,7 +46,7 @@ pub enum CueReply {
     Refused(AnlzRefusal),
 }
 
-// What the lists so far say of the cue asked for: how many cues are still to be passed over, the cue, or that one of them is bad.
+// What is known of the cue asked for after some lists: how many cues are still to be passed over, the cue, or that a list is bad.
 enum Search {
     Left(u64),
     Found(Cue),
@@ -155,7 +155,7 @@ fn list_holds(tag: &[u8]) -> bool
     }
 }
 
-// What the search says with one list more, a good one, where k cues are to be passed over.
+// The search after one list more, a good one, where k cues are to be passed over.
 fn pass(k: u64, tag: &[u8]) -> Search
     ensures { λ r. ⌜ r ≡ passed k (now (tag .entry)) ⌝ }
 {
@@ -171,7 +171,7 @@ fn pass(k: u64, tag: &[u8]) -> Search
     Search::Found(Cue::read(list, cues.entry(tag, k as u32)))
 }
 
-// What the search says with one list more.
+// The search after one list more.
 fn search_list(search: Search, tag: &[u8]) -> Search
     ensures { λ r. ⌜ r ≡ searched search (now (tag .entry)) ⌝ }
 {
@@ -196,7 +196,7 @@ fn end(search: Search) -> CueReply
     }
 }
 
-// What the search says with one section more.
+// The search after one section more.
 fn search_section(search: Search, file: &[u8], section: Section) -> Search
     ensures { λ r. ⌜ r ≡ searchedSection search (now (file .entry)) section ⌝ }
 {

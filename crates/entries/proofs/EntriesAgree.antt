@@ -1,17 +1,18 @@
--- Rules 14.17, 14.18 and 14.31: tags that agree on bytes of an entry have entries that do (`entry-agree`), and where such bytes decide a
--- test, tags that agree on them in each entry give the same verdict (`every-agree`). All stand from `18` on (`entries-behind`). For every width.
+-- Rules 14.17, 14.18 and 14.30: tags of one length are both filled or not (`fills-agree`); those that agree on bytes of an entry have entries
+-- that do (`entry-agree`); and where such bytes decide a test, tags that agree on them in each entry give the same verdict (`every-agree`).
+-- All bytes of entries stand from `18` on (`entries-behind`). For every width.
 use mathlib.Core.Path.{_≡_, refl, sym, _∙_}
 use mathlib.Core.Bool.{Bool, true, false≢true}
-use Prim.Native.Nat.{ℕ, zero, suc, _+_, _-_, _<_, _≤_}
+use Prim.Native.Nat.{ℕ, zero, suc, _+_, _<_, _≤_}
 use native.Mathlib.Omega.{arith}
 use Rattle.lists.specs.Alias.{Bytes}
 use lib.Dec.{leb}
 use borrow.Author.Tests.{leb-true, leb-false}
 use Rattle.lists.proofs.Any.{any-at, any-none}
-use Rattle.lists.proofs.Choice.{on, both-true}
-use Rattle.number.specs.Agree.{Agree, DecidedBy, within}
-use Rattle.number.proofs.NumberAgree.{within-true, within-both, agree-less, part-agree}
-use Rattle.entries.specs.Entries.{entriesStart, entryAt, entry, entriesFrom, entries}
+use Rattle.lists.proofs.Choice.{on}
+use Rattle.number.specs.Agree.{Agree, DecidedBy}
+use Rattle.number.proofs.NumberAgree.{within-both, agree-less, in-part-agree, in-part-within}
+use Rattle.entries.specs.Entries.{entriesStart, entryAt, entry, fills, entriesFrom, entries}
 use Rattle.entries.specs.Every.{everyEntry}
 use Rattle.entries.specs.Bytes.{inEntry, inEntries}
 
@@ -19,18 +20,13 @@ pub among-entries : (test : ℕ → Bool) (width count k : ℕ) → k < count �
 unfolding inEntries
 among-entries test width count k h i e = any-at (λ (j : ℕ). inEntry test width j i) count 0 k (omega arith) (omega arith) e
 
+pub fills-agree : {p : ℕ → Bool} {s t : Bytes} (width count : ℕ) → Agree p s t → fills width count s ≡ fills width count t
+unfolding fills
+fills-agree width count a = rw (a .long)
+
 module _ {s t : Bytes} (test : ℕ → Bool) (width : ℕ) where
   pub entry-agree : (k : ℕ) → Agree (inEntry test width k) s t → Agree test (entry width s k) (entry width t k)
-  unfolding inEntry
-  entry-agree k a = part-agree place width byte a
-    where
-      place : ℕ
-      place = entryAt width k
-
-      byte : (i : ℕ) → i < width → test i ≡ true → inEntry test width k (place + i) ≡ true
-      byte i h e =
-          let back : i ≡ place + i - place = omega arith in
-          rw (within-true place width (place + i) (omega arith) (omega arith)) (rw back at e)
+  entry-agree k a = in-part-agree test (entryAt width k) width a
 
   module _ (pass : Bytes → Bool) (decided : (entry : Bytes) → DecidedBy test pass entry) (count : ℕ) (a : Agree (inEntries test width count) s t) where
     from-agree : (left k : ℕ) → k + left ≤ count → everyEntry pass (entriesFrom width s left k) ≡ everyEntry pass (entriesFrom width t left k)
@@ -45,10 +41,7 @@ module _ {s t : Bytes} (test : ℕ → Bool) (width : ℕ) where
 
 -- no byte of an entry stands before byte `18`
 pub entry-behind : (test : ℕ → Bool) (width k i : ℕ) → inEntry test width k i ≡ true → entriesStart ≤ i
-unfolding inEntry
-entry-behind test width k i e =
-    let both = both-true (within (entryAt width k) width i) (test (i - entryAt width k)) e in
-    omega (arith, within-both (entryAt width k) width i (both .0))
+entry-behind test width k i e = omega (arith, within-both (entryAt width k) width i (in-part-within test (entryAt width k) width i e))
 
 pub entries-behind : (test : ℕ → Bool) (width count i : ℕ) → inEntries test width count i ≡ true → entriesStart ≤ i
 unfolding inEntries

@@ -15,7 +15,7 @@ use Rattle.anlz.specs.Element.{elementAt}
 use Rattle.entries.specs.Entries.{entry, entries, fills}
 use Rattle.entries.specs.Every.{everyEntry}
 use Rattle.entries.specs.Bytes.{inEntry}
-use Rattle.entries.proofs.EntriesAgree.{entry-agree, every-agree}
+use Rattle.entries.proofs.EntriesAgree.{fills-agree, entry-agree, every-agree}
 use Rattle.beat_grid.specs.Beat.{beatSize, beatOf, beatHolds}
 use Rattle.beat_grid.specs.Grid.{len-beats, gridIn}
 use Rattle.beat_grid.specs.Questions.{counted}
@@ -37,9 +37,8 @@ module _ {s t : Bytes} (a : Agree (countByte s) s t) where
   unfolding countByte
   number-agree = be32-agree 0x14 (agree-less (λ i e. or-left _ e) a)
 
-  fills-agree : fills beatSize (len-beats s) s ≡ fills beatSize (len-beats s) t
-  unfolding fills
-  fills-agree = rw (a .long)
+  filled-agree : fills beatSize (len-beats s) s ≡ fills beatSize (len-beats s) t
+  filled-agree = fills-agree beatSize (len-beats s) a
 
   module _ (f : fills beatSize (len-beats s) s ≡ true) where
     bar-bytes : Agree (barByte (len-beats s)) s t
@@ -53,11 +52,11 @@ module _ {s t : Bytes} (a : Agree (countByte s) s t) where
   count-agree =
       on (fills beatSize (len-beats s) s)
       (λ f.
-      let g = sym fills-agree ∙ f in
+      let g = sym filled-agree ∙ f in
       on (everyEntry beatHolds (entries beatSize (len-beats s) s))
       (λ b. sym (count-given s refl f b) ∙ count-given t number-agree g (sym (all-bars-agree f) ∙ b))
       (λ b. sym (count-bars s refl f b) ∙ count-bars t number-agree g (sym (all-bars-agree f) ∙ b)))
-      (λ f. sym (count-short s refl f) ∙ count-short t number-agree (sym fills-agree ∙ f))
+      (λ f. sym (count-short s refl f) ∙ count-short t number-agree (sym filled-agree ∙ f))
 
 module _ (k : ℕ) {s t : Bytes} (a : Agree (beatByte k s) s t) where
   count-bytes : Agree (countByte s) s t

@@ -6,7 +6,7 @@ use Prim.Native.Nat.{ℕ}
 use lib.Dec.{leb}
 use borrow.Author.Tests.{le-leb}
 use Rattle.lists.specs.Alias.{Bytes}
-use Rattle.lists.proofs.Choice.{on, both-true, or-left, or-right}
+use Rattle.lists.proofs.Choice.{on, both-true, or-left, or-right, or-more}
 use Rattle.number.specs.Agree.{within}
 use Rattle.refusal.specs.Answer.{Answer, given, refused, andThen}
 use Rattle.anlz.specs.declared.Section.{Section}
@@ -47,7 +47,7 @@ module _ (fewer more : Bytes → ℕ → Bool) (among : (tag : Bytes) (i : ℕ) 
 
   file-among : relevant fewer file i ≡ true → relevant more file i ≡ true
   unfolding relevant
-  file-among e = on (envelopeByte file i) (λ h. or-left _ h) (λ h. or-right (envelopeByte file i) (grid-among (gridSection file) (rw h at e)))
+  file-among e = or-more (envelopeByte file i) (grid-among (gridSection file)) e
 
 pub count-among : (file : Bytes) (i : ℕ) → relevant countByte file i ≡ true → relevant bothByte file i ≡ true
 count-among = file-among countByte bothByte tag-count-among

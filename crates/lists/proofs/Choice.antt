@@ -33,6 +33,9 @@ or-left b e = rw e
 pub or-right : (a : Bool) {b : Bool} → b ≡ true → (a || b) ≡ true
 or-right a e = rw (e, or-true a)
 
+pub or-more : (a : Bool) {b c : Bool} → (b ≡ true → c ≡ true) → (a || b) ≡ true → (a || c) ≡ true
+or-more a f e = on a (λ h. or-left _ h) (λ h. or-right a (f (rw h at e)))
+
 -- two constructors are never equal: `cc` gives 0 ≡ 1, and anything follows
 pub never {ℓ} : {A : Type ℓ} → _≡_ {A = ℕ} 0 1 → A
 never z = absurd (omega arith)

@@ -1,9 +1,9 @@
--- Section 7 and rules 14.16 to 14.19: agreement on relevant bytes gives equal numbers (byte-agree, two-agree, four-agree and, from these,
--- le16-agree to be32-agree), and agreement of a whole that of its parts (drop-agree, take-agree, part-agree) and of fewer bytes
--- (agree-less, agree-inside).
+-- Section 7 and rules 14.16 to 14.19, 14.30 to 14.33: agreement on relevant bytes gives equal numbers (byte-agree, two-agree, four-agree and, from these,
+-- le16-agree to be32-agree), and agreement of a whole that of its parts (drop-agree, take-agree, part-agree, in-part-agree) and
+-- of fewer bytes (agree-less, agree-inside).
 use mathlib.Core.Path.{_≡_, sym, _∙_}
 use mathlib.Core.Bool.{Bool, true, false, _&&_}
-use Prim.Native.Nat.{ℕ, _+_, _*_, _<_, _≤_}
+use Prim.Native.Nat.{ℕ, _+_, _-_, _*_, _<_, _≤_}
 use native.Mathlib.Omega.{arith}
 use lib.ListN.{length, take, drop, length-drop, length-take}
 use lib.Seq.{getD-drop, getD-take}
@@ -11,7 +11,7 @@ use lib.Dec.{ltb, leb}
 use borrow.Author.Tests.{le-leb, lt-ltb, ltb-true, ltb-false, leb-true}
 use Rattle.lists.specs.Alias.{Bytes}
 use Rattle.number.specs.Number.{byteAt, le16, le24, le32, be16, be32}
-use Rattle.number.specs.Agree.{Agree, within}
+use Rattle.number.specs.Agree.{Agree, within, inPart}
 use Rattle.number.proofs.Number.{byte-past, le32-bytes, be32-bytes}
 use Rattle.lists.proofs.Choice.{on, both-true}
 
@@ -112,3 +112,24 @@ part-agree {whole} {part} {s} place size f a = agree-inside (agree-less byte (ta
     byte i e =
         let both = both-true (ltb i (length (take size (drop place s)))) (part i) e in
         f i (omega (arith, ltb-true i (length (take size (drop place s))) (both .0), length-take size (drop place s))) (both .1)
+
+pub in-part-agree : {s t : Bytes} (test : ℕ → Bool) (place size : ℕ) → Agree (inPart test place size) s t
+    → Agree test (take size (drop place s)) (take size (drop place t))
+unfolding inPart
+in-part-agree test place size a = part-agree place size byte a
+  where
+    byte : (i : ℕ) → i < size → test i ≡ true → inPart test place size (place + i) ≡ true
+    byte i h e =
+        let back : i ≡ place + i - place = omega arith in
+        rw (within-true place size (place + i) (omega arith) (omega arith)) (rw back at e)
+
+pub in-part-within : (test : ℕ → Bool) (place size i : ℕ) → inPart test place size i ≡ true → within place size i ≡ true
+unfolding inPart
+in-part-within test place size i e = both-true (within place size i) (test (i - place)) e .0
+
+pub in-part-among : (fewer more : ℕ → Bool) (place size i : ℕ) → (fewer (i - place) ≡ true → more (i - place) ≡ true)
+    → inPart fewer place size i ≡ true → inPart more place size i ≡ true
+unfolding inPart
+in-part-among fewer more place size i f e =
+    let both = both-true (within place size i) (fewer (i - place)) e in
+    rw (both .0) (f (both .1))

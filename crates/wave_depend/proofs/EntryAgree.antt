@@ -9,9 +9,9 @@ use Rattle.number.proofs.NumberAgree.{within-less, agree-less, be32-agree}
 use Rattle.anlz.specs.declared.Section.{Section}
 use Rattle.anlz.specs.Bytes.{inTag}
 use Rattle.anlz.proofs.SectionsAgree.{tag-bytes-agree}
-use Rattle.entries.specs.Entries.{fills}
+use Rattle.entries.proofs.EntriesAgree.{fills-agree}
 use Rattle.waveform.specs.declared.Wave.{Wave}
-use Rattle.waveform.specs.Wave.{len-entry-bytes, len-entries, waveHolds, entryIn}
+use Rattle.waveform.specs.Wave.{len-entry-bytes, len-entries, waveWidth, waveHolds, entryIn}
 use Rattle.wave_depend.specs.Bytes.{widthAndNumber}
 
 module _ {s t : Bytes} (a : Agree (widthAndNumber s) s t) where
@@ -22,8 +22,8 @@ module _ {s t : Bytes} (a : Agree (widthAndNumber s) s t) where
   number-agree = be32-agree 0x10 (agree-less (λ i e. within-less 0x10 4 _ _ i (omega arith) (omega arith) e) a)
 
   holds-agree : (wave : Wave) → waveHolds wave s ≡ waveHolds wave t
-  unfolding waveHolds fills
-  holds-agree wave = rw (width-agree, number-agree, a .long)
+  unfolding waveHolds
+  holds-agree wave = rw (width-agree, number-agree, fills-agree (waveWidth wave) (len-entries t) a)
 
 pub entry-agree : (wave : Wave) (section : Section) (k : ℕ) {s t : Bytes} → Agree (inTag widthAndNumber s section) s t
     → entryIn wave s section k ≡ entryIn wave t section k

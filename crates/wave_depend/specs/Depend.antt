@@ -1,5 +1,5 @@
 -- Rule 14.32 as one theorem (`EveryWave`): what an answer about a waveform's entry may depend on. The relevant bytes (specs/Bytes) are the
--- same for every k, and none of them is a byte of an entry.
+-- same for every k; of the section asked for they stand before its entries.
 use Prim.Native.Nat.{ℕ}
 use Rattle.lists.specs.Alias.{Bytes}
 use Rattle.number.specs.Agree.{DecidedBy}

@@ -1,6 +1,6 @@
 -- Rule 14.32 by example: a file with a section PWV3 of two entries, a second one behind it, and a section PWV5 of one entry, and five files
 -- that differ from it in one byte. An example holds when the definitions say of a byte what is said here.
-use mathlib.Core.Bool.{Bool, true, false}
+use mathlib.Core.Bool.{true, false}
 use mathlib.Core.List.{List, [], _∷_}
 use Prim.Native.Nat.{ℕ}
 use lib.ListN.{set}

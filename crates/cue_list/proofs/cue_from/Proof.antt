@@ -1,4 +1,4 @@
--- `cue_list::cue_from` meets its contract: by the loop's invariant `SectionsLeft` (anlz/SectionsLoop), with what the search says (proofs/CueSearch).
+-- `cue_list::cue_from` meets its contract: by the loop's invariant `SectionsLeft` (anlz/SectionsLoop), with the answer for the search so far (proofs/CueSearch).
 use mathlib.Core.Path.{sym, _∙_}
 use Prim.Native.Nat.{_-_}
 use native.Mathlib.Omega.{arith}
