@@ -1,6 +1,6 @@
 /*
  * Sarvoltig: a proved reader of rekordbox files: of export.pdb files that arrive in blocks of 512 bytes, and of the
- * beat grid of whole ANLZ files.
+ * beat grid, the cues and the waveforms of whole ANLZ files.
  *
  * The caller owns all memory: for an export the image (the file's bytes) and the map (one bit for each block), for an
  * ANLZ file the file's bytes, and the result (numbers). The functions keep no state, allocate nothing and call nothing
@@ -24,9 +24,11 @@
  * absent ones, whose rows are skipped, are counted too. Two entries may name one row: it is then found twice, and each
  * of the two records has its own entry.
  *
- * An ANLZ file is asked with sarvoltig_beats and sarvoltig_beat as soon as all of it is there: it needs no opening, no
- * image and no map, the file is only read, and no answer waits. Each call goes through all sections and all beats, so n
- * beats one by one take time that grows with the square of n: read them once and keep them.
+ * An ANLZ file is asked with sarvoltig_beats, sarvoltig_beat, sarvoltig_cue and sarvoltig_wave as soon as all of it is
+ * there: it needs no opening, no image and no map, the file is only read, and no answer waits. Each call goes through
+ * all sections, one about beats also through all beats and one about cues through all cues, so n of them one by one
+ * take time that grows with the square of n: read them once and keep them. A call about one of them does not judge the
+ * others: where the cues are refused, the beats may be answered.
  *
  * A slice is a pointer and the number of elements that it points to. What the caller has to keep:
  *   - a pointer is aligned for its type and not NULL, also where the number is 0;
@@ -86,14 +88,16 @@ enum {
     SARVOLTIG_TEXT_FAULT = 15,    /* a string is malformed or outside, or a code has no zero byte: page, index entry */
     SARVOLTIG_CHAIN_LOOP = 16,    /* a table's pages come back to one before the last */
     SARVOLTIG_LIST_SHORT = 17,    /* the list has no room for the rows, or codes for the packet: the rows or blocks */
-    SARVOLTIG_NO_ROW = 18,        /* the table has no such record, the list no such row, or the grid no such beat */
+    SARVOLTIG_NO_ROW = 18,        /* no such record, row of the list, beat, cue, entry of a waveform, or waveform */
     SARVOLTIG_NO_SLOT = 19,       /* the table's records have no such string slot */
     SARVOLTIG_ANLZ_HEADER = 20,   /* the header of an ANLZ file is broken, or len_file is not the file's length */
     SARVOLTIG_SECTION = 21,       /* a section is malformed or ends past the file, or bytes are left over at the end */
     SARVOLTIG_NO_GRID = 22,       /* no section is a beat grid, PQTZ */
     SARVOLTIG_GRID_LENGTH = 23,   /* the beats do not fill the grid's section exactly */
     SARVOLTIG_BAR_POSITION = 24,  /* the bar position of a beat, whichever it is, is not 1 to 4 */
-    SARVOLTIG_PAGE_TYPE = 25      /* a page's header names another table type: the page */
+    SARVOLTIG_PAGE_TYPE = 25,     /* a page's header names another table type: the page */
+    SARVOLTIG_CUE_LIST = 26,      /* a cue list, whichever it is, or a cue in it is not as rules 14.20 to 14.22 say */
+    SARVOLTIG_WAVEFORM = 27       /* the waveform has another width, count or length than rule 14.27 says */
 };
 
 /* Where a refusal's numbers stand in the result. Every refusal writes both. */
@@ -188,6 +192,36 @@ enum {
     SARVOLTIG_BEAT_BAR_POSITION, /* its position in the bar, 1 to 4 */
     SARVOLTIG_BEAT_TEMPO,        /* beats per minute, times 100 */
     SARVOLTIG_BEAT_TIME          /* milliseconds from the track's start, at its normal speed */
+};
+
+/* A cue. Times are in milliseconds, as those of beats. */
+enum {
+    SARVOLTIG_CUE_LIST_TYPE, /* SARVOLTIG_MEMORY or SARVOLTIG_HOT */
+    SARVOLTIG_CUE_HOT_CUE,   /* the hot cue number */
+    SARVOLTIG_CUE_KIND,      /* SARVOLTIG_POINT or SARVOLTIG_LOOP */
+    SARVOLTIG_CUE_TIME,      /* of the point, or where the loop starts */
+    SARVOLTIG_CUE_LOOP_TIME  /* of a loop alone: where it goes back to its start */
+};
+enum {
+    SARVOLTIG_MEMORY = 0,
+    SARVOLTIG_HOT = 1
+};
+enum {
+    SARVOLTIG_POINT = 1,
+    SARVOLTIG_LOOP = 2
+};
+
+/* An entry of a waveform. */
+enum {
+    SARVOLTIG_WAVE_PLACE, /* where it starts in the file */
+    SARVOLTIG_WAVE_WIDTH  /* its length in bytes */
+};
+
+/* The sorts of waveforms, with the bytes of an entry. */
+enum {
+    SARVOLTIG_WAVE_DETAIL = 3,        /* PWV3: 1 */
+    SARVOLTIG_WAVE_COLOR_PREVIEW = 4, /* PWV4: 6, always 1,200 entries */
+    SARVOLTIG_WAVE_COLOR_DETAIL = 5   /* PWV5: 2 */
 };
 
 /* String slots of a track. */
@@ -376,6 +410,32 @@ uint32_t sarvoltig_beats(const uint8_t *file, size_t file_len,
  */
 uint32_t sarvoltig_beat(const uint8_t *file, size_t file_len,
                         uint64_t k,
+                        uint64_t *result, size_t result_len);
+
+/*
+ * Asks for cue k of an ANLZ file, from 0, counted through all its cue lists, the sections PCOB, in their order. Each
+ * section and each cue of each list is judged.
+ *
+ *     0           list type, hot cue number, kind and time, and for a loop its loop time: SARVOLTIG_CUE_..
+ *     20, 21, 26  refused, by the first that applies
+ *     18          refused: k is not below the number of cues, which is 0 where there is no list
+ */
+uint32_t sarvoltig_cue(const uint8_t *file, size_t file_len,
+                       uint64_t k,
+                       uint64_t *result, size_t result_len);
+
+/*
+ * Asks for entry k, from 0, of a waveform of an ANLZ file: of the first section of its sort. Each section is judged,
+ * and of the waveform all but its entries' bytes, which are not read.
+ *
+ *     0           the entry's place in the file and its width: SARVOLTIG_WAVE_..
+ *     20, 21      refused, by the first that applies
+ *     18          refused: sort is not 3, 4 or 5, or the file has no such section
+ *     27          refused: the waveform is not filled by its entries, or has another width or count
+ *     18          refused: k is not below the number of entries
+ */
+uint32_t sarvoltig_wave(const uint8_t *file, size_t file_len,
+                        uint64_t sort, uint64_t k,
                         uint64_t *result, size_t result_len);
 
 #ifdef __cplusplus

@@ -13,54 +13,73 @@
 #include "sarvoltig.h"
 
 enum { LEN = 27648, BLOCKS = LEN / SARVOLTIG_BLOCK, WORDS = SARVOLTIG_MAP_WORDS(LEN), ROOM = 1000, N = SARVOLTIG_RESULT };
-enum { OPEN, DELIVER, PACKET, ROWS, RECORD, TEXT, RECORD_IN, TEXT_IN, BEATS, BEAT, CALLS };
+enum { OPEN, DELIVER, PACKET, ROWS, RECORD, TEXT, RECORD_IN, TEXT_IN, BEATS, BEAT, CUE, WAVE, CALLS };
 
 static const char *const names[] = {"sarvoltig_open",   "sarvoltig_deliver", "sarvoltig_packet",    "sarvoltig_rows",
                                     "sarvoltig_record", "sarvoltig_text",    "sarvoltig_record_in", "sarvoltig_text_in",
-                                    "sarvoltig_beats",  "sarvoltig_beat"};
-/* An ANLZ file with a grid of one beat. */
-static const uint8_t anlz[] = {'P', 'M', 'A', 'I', 0, 0, 0, 12, 0, 0, 0, 44, 'P', 'Q', 'T', 'Z', 0, 0, 0, 24, 0, 0,
-                               0,   32,  0,   0,   0, 0, 0, 0,  0, 0, 0, 0,  0,   1,   0,   1,   0, 0, 0, 0,  0, 0};
+                                    "sarvoltig_beats",  "sarvoltig_beat",    "sarvoltig_cue",       "sarvoltig_wave"};
+/* An ANLZ file: a grid of one beat, a list of one cue, a loop, and a waveform of one entry. */
+static const char tags[] = "PMAI\0\0\0\x0c\0\0\0\x95"
+                           "PQTZ\0\0\0\x18\0\0\0\x20\0\0\0\0\0\x80\0\0\0\0\0\x01\0\x01\x30\xd4\0\0\0\0"
+                           "PCOB\0\0\0\x18\0\0\0\x50\0\0\0\x01\0\0\0\x01\0\0\0\0"
+                           "PCPT\0\0\0\x1c\0\0\0\x38\0\0\0\x01\0\0\0\x01\0\0\0\0\0\0\0\0"
+                           "\x02\0\0\0\0\0\x01\xf9\0\0\x09\x99\0\0\0\0\0\0\0\0\0\0\0\0\0\0\0\0"
+                           "PWV3\0\0\0\x18\0\0\0\x19\0\0\0\x01\0\0\0\x01\0\0\0\0\x1f";
+static const uint8_t *const anlz = (const uint8_t *)tags;
+enum { ANLZ = sizeof tags - 1 };
 static uint8_t file[LEN], image[LEN], stack[1 << 16];
 static uint64_t map[WORDS], result[N], blocks[BLOCKS];
 static uint32_t list[ROOM];
 static ucontext_t caller, callee;
 static int call;
+static uint32_t code;
 static uint8_t *frame;
 
-static void make_call(void)
+static void ask_export(void)
 {
     frame = (uint8_t *)__builtin_frame_address(0);
     switch (call) {
     case OPEN:
-        sarvoltig_open(LEN, image, LEN, map, WORDS, result, N);
+        code = sarvoltig_open(LEN, image, LEN, map, WORDS, result, N);
         break;
     case DELIVER:
-        sarvoltig_deliver(LEN, image, LEN, map, WORDS, 0, file, SARVOLTIG_BLOCK, result, N);
+        code = sarvoltig_deliver(LEN, image, LEN, map, WORDS, 0, file, SARVOLTIG_BLOCK, result, N);
         break;
     case PACKET:
-        sarvoltig_packet(LEN, image, LEN, map, WORDS, blocks, BLOCKS, file, LEN, list, ROOM, result, N);
+        code = sarvoltig_packet(LEN, image, LEN, map, WORDS, blocks, BLOCKS, file, LEN, list, ROOM, result, N);
         break;
     case ROWS:
-        sarvoltig_rows(LEN, image, LEN, map, WORDS, SARVOLTIG_TRACKS, list, ROOM, result, N);
+        code = sarvoltig_rows(LEN, image, LEN, map, WORDS, SARVOLTIG_TRACKS, list, ROOM, result, N);
         break;
     case RECORD:
-        sarvoltig_record(LEN, image, LEN, map, WORDS, SARVOLTIG_TRACKS, 20, result, N);
+        code = sarvoltig_record(LEN, image, LEN, map, WORDS, SARVOLTIG_TRACKS, 20, result, N);
         break;
     case TEXT:
-        sarvoltig_text(LEN, image, LEN, map, WORDS, SARVOLTIG_TRACKS, 20, SARVOLTIG_SLOT_TITLE, result, N);
+        code = sarvoltig_text(LEN, image, LEN, map, WORDS, SARVOLTIG_TRACKS, 20, SARVOLTIG_SLOT_TITLE, result, N);
         break;
     case RECORD_IN:
-        sarvoltig_record_in(LEN, image, LEN, map, WORDS, SARVOLTIG_TRACKS, list, ROOM, 20, result, N);
-        break;
-    case TEXT_IN:
-        sarvoltig_text_in(LEN, image, LEN, map, WORDS, SARVOLTIG_TRACKS, list, ROOM, 20, SARVOLTIG_SLOT_TITLE, result, N);
-        break;
-    case BEATS:
-        sarvoltig_beats(anlz, sizeof anlz, result, N);
+        code = sarvoltig_record_in(LEN, image, LEN, map, WORDS, SARVOLTIG_TRACKS, list, ROOM, 20, result, N);
         break;
     default:
-        sarvoltig_beat(anlz, sizeof anlz, 0, result, N);
+        code = sarvoltig_text_in(LEN, image, LEN, map, WORDS, SARVOLTIG_TRACKS, list, ROOM, 20, SARVOLTIG_SLOT_TITLE, result, N);
+    }
+}
+
+static void ask_anlz(void)
+{
+    frame = (uint8_t *)__builtin_frame_address(0);
+    switch (call) {
+    case BEATS:
+        code = sarvoltig_beats(anlz, ANLZ, result, N);
+        break;
+    case BEAT:
+        code = sarvoltig_beat(anlz, ANLZ, 0, result, N);
+        break;
+    case CUE:
+        code = sarvoltig_cue(anlz, ANLZ, 0, result, N);
+        break;
+    default:
+        code = sarvoltig_wave(anlz, ANLZ, SARVOLTIG_WAVE_DETAIL, 0, result, N);
     }
 }
 
@@ -81,8 +100,12 @@ int main(void)
         callee.uc_stack.ss_sp = stack;
         callee.uc_stack.ss_size = sizeof stack;
         callee.uc_link = &caller;
-        makecontext(&callee, make_call, 0);
+        makecontext(&callee, call < BEATS ? ask_export : ask_anlz, 0);
         swapcontext(&caller, &callee);
+        if (code != SARVOLTIG_DONE) {
+            fprintf(stderr, "measure: %s: code %u\n", names[call], (unsigned)code);
+            return 1;
+        }
         for (untouched = 0; stack[untouched] == 0xa5; untouched++) {
         }
         printf("%s %ld\n", names[call], (long)(frame - (stack + untouched)));

@@ -1,14 +1,16 @@
-//! The beat grid of an ANLZ file (section 14 of docs/RULES.md).
+//! ANLZ files and their beat grid (rules 14.1 to 14.15 of docs/RULES.md).
 
 use crate::raw::{self, DONE};
 use crate::Refusal;
 use std::iter::FusedIterator;
 use std::ops::Range;
 
-/// A whole ANLZ file, whose beat grid is asked for: its first section `PQTZ`.
+/// A whole ANLZ file, which is asked for the beats of its grid, the first section `PQTZ`, for the cues of its lists,
+/// the sections `PCOB`, and for the entries of its waveforms, the first section of each sort.
 ///
-/// Nothing is kept beside the borrowed bytes. Each question judges the whole file anew, all sections and all beats of
-/// the grid, so its time grows with the file.
+/// Nothing is kept beside the borrowed bytes. Each question judges the file anew: all sections, and all beats of the
+/// grid, all cues, or the waveform that it asks for. So its time grows with the file. What a question does not ask for
+/// it does not judge: a file whose cues are refused may have beats.
 ///
 /// ```
 /// use sarvoltig::{Anlz, Beat, Refusal};
@@ -26,7 +28,7 @@ use std::ops::Range;
 /// ```
 #[derive(Clone, Copy, Debug)]
 pub struct Anlz<'a> {
-    file: &'a [u8],
+    pub(crate) file: &'a [u8],
 }
 
 impl<'a> Anlz<'a> {

@@ -1,4 +1,4 @@
-//! The ten functions of the proved library over numbers and slices, as `include/sarvoltig.h` has them.
+//! The twelve functions of the proved library over numbers and slices, as `include/sarvoltig.h` has them.
 //!
 //! Each returns a code: [`DONE`], [`SAME`], [`WAITING`], or a refusal's number. The answer's values go to the
 //! front of `result`, as many as it takes; [`RESULT`] words take every answer. Those of a refusal are its value and its
@@ -123,6 +123,21 @@ mod c {
         pub fn sarvoltig_beat(
             file: *const u8,
             file_len: usize,
+            k: u64,
+            result: *mut u64,
+            result_len: usize,
+        ) -> u32;
+        pub fn sarvoltig_cue(
+            file: *const u8,
+            file_len: usize,
+            k: u64,
+            result: *mut u64,
+            result_len: usize,
+        ) -> u32;
+        pub fn sarvoltig_wave(
+            file: *const u8,
+            file_len: usize,
+            sort: u64,
             k: u64,
             result: *mut u64,
             result_len: usize,
@@ -376,6 +391,53 @@ pub fn beat(file: &[u8], k: u64, result: &mut [u64]) -> u32 {
         c::sarvoltig_beat(
             file.as_ptr(),
             file.len(),
+            k,
+            result.as_mut_ptr(),
+            result.len(),
+        )
+    }
+}
+
+/// Asks for cue `k` of an ANLZ file. Values: type of its list (0 memory, 1 hot), hot cue number, kind (1 point, 2
+/// loop), milliseconds, and for a loop its loop time.
+///
+/// ```
+/// // a file header alone: there is no cue list
+/// let file = b"PMAI\0\0\0\x0c\0\0\0\x0c";
+/// let mut result = [7; 3];
+/// assert_eq!(sarvoltig::raw::cue(file, 0, &mut result), 18);
+/// assert_eq!(result, [0, 0, 7]);
+/// ```
+pub fn cue(file: &[u8], k: u64, result: &mut [u64]) -> u32 {
+    // SAFETY: as in `open`.
+    unsafe {
+        c::sarvoltig_cue(
+            file.as_ptr(),
+            file.len(),
+            k,
+            result.as_mut_ptr(),
+            result.len(),
+        )
+    }
+}
+
+/// Asks for entry `k` of the waveform of a sort of an ANLZ file. Values: place, width.
+///
+/// ```
+/// // a section PWV3 of two entries
+/// let file = b"PMAI\0\0\0\x0c\0\0\0\x26\
+///     PWV3\0\0\0\x18\0\0\0\x1a\0\0\0\x01\0\0\0\x02\0\x96\0\0\x0f\x1f";
+/// let mut result = [7; 3];
+/// assert_eq!(sarvoltig::raw::wave(file, 3, 1, &mut result), 0);
+/// assert_eq!(result, [37, 1, 7]);
+/// ```
+pub fn wave(file: &[u8], sort: u64, k: u64, result: &mut [u64]) -> u32 {
+    // SAFETY: as in `open`.
+    unsafe {
+        c::sarvoltig_wave(
+            file.as_ptr(),
+            file.len(),
+            sort,
             k,
             result.as_mut_ptr(),
             result.len(),

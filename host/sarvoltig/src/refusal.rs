@@ -65,7 +65,8 @@ pub enum Refusal {
     ChainLoop,
     /// 17: the list is too short; the rows found, or the number of blocks for the results of a packet.
     ListShort(u64),
-    /// 18: the table has no such row, the list does not have it there, or the beat grid has no such beat.
+    /// 18: the table has no such row, the list does not have it there, or the ANLZ file has no such beat, cue, waveform
+    /// or entry of a waveform.
     NoRow,
     /// 19: the table has no such string slot.
     NoSlot,
@@ -81,6 +82,10 @@ pub enum Refusal {
     BarPosition,
     /// 25: the page's header names another table type.
     PageType(u64),
+    /// 26: a cue list of an ANLZ file, or a cue in it, is malformed.
+    CueList,
+    /// 27: a waveform of an ANLZ file has another width or count than it may, or its entries do not fill it.
+    Waveform,
     /// A number that this version does not know.
     Other {
         /// The refusal's number.
@@ -128,6 +133,8 @@ impl Refusal {
             23 => Self::GridLength,
             24 => Self::BarPosition,
             25 => Self::PageType(value),
+            26 => Self::CueList,
+            27 => Self::Waveform,
             _ => Self::Other {
                 number,
                 value,
@@ -170,6 +177,8 @@ impl Refusal {
             Self::GridLength => 23,
             Self::BarPosition => 24,
             Self::PageType(_) => 25,
+            Self::CueList => 26,
+            Self::Waveform => 27,
             Self::Other { number, .. } => number,
         }
     }
@@ -208,13 +217,14 @@ impl Refusal {
     }
 
     /// Whether it is a fault of the export's own (9 to 16 and 25), which every later question on the table meets again.
-    /// The faults of an ANLZ file (20 to 24) are not meant: no block of it is yet to come.
+    /// The faults of an ANLZ file (20 to 24, 26 and 27) are not meant: no block of it is yet to come.
     ///
     /// ```
     /// use sarvoltig::Refusal;
     /// assert!(Refusal::FileHeader.is_file_fault());
     /// assert!(Refusal::PageType(7).is_file_fault());
     /// assert!(!Refusal::AnlzHeader.is_file_fault());
+    /// assert!(!Refusal::CueList.is_file_fault());
     /// ```
     #[must_use]
     pub fn is_file_fault(self) -> bool {
@@ -235,13 +245,15 @@ impl Refusal {
             Self::FileHeader => "the file header is broken",
             Self::NoPointer => "the file has no such table",
             Self::ChainLoop => "the chain meets a page twice",
-            Self::NoRow => "there is no such row or beat",
+            Self::NoRow => "there is no such row, beat, cue or entry",
             Self::NoSlot => "the table has no such string slot",
             Self::AnlzHeader => "the header of the ANLZ file is broken",
             Self::Section => "a section of the ANLZ file is malformed",
             Self::NoGrid => "the ANLZ file has no beat grid",
             Self::GridLength => "the number of beats does not fit the beat grid",
             Self::BarPosition => "the bar position of a beat is not 1 to 4",
+            Self::CueList => "a cue list of the ANLZ file is malformed",
+            Self::Waveform => "the waveform of the ANLZ file is malformed",
             _ => "",
         }
     }

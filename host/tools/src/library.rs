@@ -1,7 +1,7 @@
 //! Calls made on the library.
 
 use sarvoltig::raw::{self, DONE, RESULT, SAME, WAITING};
-use sarvoltig_reference::anlz::Beat;
+use sarvoltig_reference::anlz::{Beat, Cue, CueListType, CuePosition, WaveEntry};
 use sarvoltig_reference::model::{Delivered, Encoding, RecordReply, Refusal, Rows, TextReply};
 use sarvoltig_reference::schedule::{Answer, Call, Reply};
 
@@ -175,6 +175,8 @@ impl Library {
             Call::TextIn { table, i, slot } => self.text_in(table, i, slot)?,
             Call::Beats => self.beats()?,
             Call::Beat { k } => self.beat(k)?,
+            Call::Cue { k } => self.cue(k)?,
+            Call::Wave { sort, k } => self.wave(sort, k)?,
         };
         Ok(Some(Answer { reply, list }))
     }
@@ -280,6 +282,16 @@ impl Library {
         let coded = Coded::of(|result| raw::beat(&self.anlz, k, result));
         coded.answer(|c| (c.code == DONE).then(|| c.values(3).and_then(found_beat)))
     }
+
+    fn cue(&self, k: u64) -> Result<Result<Reply, Refusal>, Failure> {
+        let coded = Coded::of(|result| raw::cue(&self.anlz, k, result));
+        coded.answer(|c| (c.code == DONE).then(|| found_cue(c)))
+    }
+
+    fn wave(&self, sort: u64, k: u64) -> Result<Result<Reply, Refusal>, Failure> {
+        let coded = Coded::of(|result| raw::wave(&self.anlz, sort, k, result));
+        coded.answer(|c| (c.code == DONE).then(|| c.values(2).and_then(found_entry)))
+    }
 }
 
 /// The length of the list that a call writes to; 0 for a call without one.
@@ -300,6 +312,40 @@ fn found_beat(values: &[u64]) -> Result<Reply, Failure> {
         bar_position: narrow(values[0])?,
         tempo: narrow(values[1])?,
         time: narrow(values[2])?,
+    }))
+}
+
+/// A cue: four values of a point, five of a loop.
+fn found_cue(coded: &Coded) -> Result<Reply, Failure> {
+    let [list, hot_cue, kind, time, loop_time, ..] = coded.values;
+    let position = match kind {
+        1 => {
+            coded.values(4)?;
+            let time = narrow(time)?;
+            CuePosition::Point { time }
+        }
+        2 => {
+            coded.values(5)?;
+            let (time, loop_time) = (narrow(time)?, narrow(loop_time)?);
+            CuePosition::Loop { time, loop_time }
+        }
+        _ => return Err(Failure::Wrong),
+    };
+    Ok(Reply::Cue(Cue {
+        list: match list {
+            0 => CueListType::Memory,
+            1 => CueListType::Hot,
+            _ => return Err(Failure::Wrong),
+        },
+        hot_cue: narrow(hot_cue)?,
+        position,
+    }))
+}
+
+fn found_entry(values: &[u64]) -> Result<Reply, Failure> {
+    Ok(Reply::WaveEntry(WaveEntry {
+        place: values[0],
+        width: narrow(values[1])?,
     }))
 }
 

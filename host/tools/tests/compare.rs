@@ -3,7 +3,7 @@
 //! same answers about more than 100,000 ANLZ files. Where the row index begins is asked of the library alone, for every
 //! number of entries.
 
-use sarvoltig_reference::anlz::grid;
+use sarvoltig_reference::anlz::{cues, grid, waveform, CuePosition};
 use sarvoltig_reference::model::{
     index_size, RecordReply, Refusal, Rows, Session, BLOCK_SIZE, PAGE_HEADER,
 };
@@ -276,18 +276,35 @@ fn outcome(call: &Call, run: &mut Run) -> String {
     match call.make(run).map(|answer| answer.reply) {
         None => "file".to_string(),
         Some(Err(refusal)) => format!("refused {}", refusal.number),
-        Some(Ok(_)) if *call == Call::Beats => "beats".to_string(),
-        Some(Ok(_)) => "beat".to_string(),
+        Some(Ok(Reply::Beats(_))) => "beats".to_string(),
+        Some(Ok(Reply::Beat(_))) => "beat".to_string(),
+        Some(Ok(Reply::Cue(cue))) => match cue.position {
+            CuePosition::Point { .. } => "point".to_string(),
+            CuePosition::Loop { .. } => "loop".to_string(),
+        },
+        Some(Ok(Reply::WaveEntry(entry))) => format!("entry of {}", entry.width),
+        Some(Ok(reply)) => format!("{reply}"),
     }
 }
 
-/// How often each outcome is met.
+/// Whether a file has a cue and a waveform with an entry, all answered.
+fn has_cues_and_waves(file: &[u8]) -> bool {
+    let has_entries = |sort| waveform(file, sort).is_ok_and(|waveform| waveform.count > 0);
+    cues(file).is_ok_and(|cues| !cues.is_empty()) && [3, 4, 5].into_iter().any(has_entries)
+}
+
+/// How often each outcome is met, and a file of cues and waves.
 fn outcomes() -> BTreeMap<String, u64> {
     let mut outcomes = BTreeMap::new();
     for calls in (0..ANLZ_RUNS).map(anlz_run) {
         let mut run = Run::new(Session::new(Vec::new(), Vec::new()));
         for call in calls {
             *outcomes.entry(outcome(&call, &mut run)).or_default() += 1;
+            if matches!(&call, Call::Anlz { file } if has_cues_and_waves(file)) {
+                *outcomes
+                    .entry("file of cues and waves".to_string())
+                    .or_default() += 1;
+            }
         }
     }
     outcomes
@@ -297,14 +314,22 @@ fn outcomes() -> BTreeMap<String, u64> {
 fn runs_of_anlz_files_have_every_answer() {
     let least = [
         ("file", 100_000),
+        ("file of cues and waves", 30_000),
         ("beats", 40_000),
         ("beat", 100_000),
+        ("point", 90_000),
+        ("loop", 60_000),
+        ("entry of 1", 30_000),
+        ("entry of 2", 30_000),
+        ("entry of 6", 10_000),
         ("refused 18", 100_000),
         ("refused 20", 70_000),
         ("refused 21", 70_000),
         ("refused 22", 70_000),
         ("refused 23", 70_000),
         ("refused 24", 70_000),
+        ("refused 26", 70_000),
+        ("refused 27", 50_000),
     ];
     let outcomes = outcomes();
     for (outcome, least) in least {
@@ -350,10 +375,52 @@ fn each_value_of_each_byte_of_an_anlz_file() {
     }
 }
 
+/// A file with two cue lists, the second empty, and waveforms of sorts 3 and 5, each of two entries.
+fn small_file_of_cues_and_waves() -> Vec<u8> {
+    let file = [
+        &b"PMAI\0\0\0\x0c\0\0\0\xe2"[..],
+        b"PCOB\0\0\0\x18\0\0\0\x88\0\0\0\x01\0\0\0\x02\xff\xff\xff\xff",
+        b"PCPT\0\0\0\x1c\0\0\0\x38\0\0\0\x01\0\0\0\x01\0\x10\0\0\xff\xff\0\x01",
+        b"\x01\0\x03\xe8\0\0\x01\xf9\xff\xff\xff\xff................",
+        b"PCPT\0\0\0\x1c\0\0\0\x38\0\0\0\x02\0\0\0\0\0\x10\0\0\0\0\xff\xff",
+        b"\x02\0\x03\xe8\0\0\x03\xe8\0\0\x07\xd0................",
+        b"PWV3\0\0\0\x18\0\0\0\x1a\0\0\0\x01\0\0\0\x02\0\x96\0\0\x1f\x0f",
+        b"PCOB\0\0\0\x0c\0\0\0\x18\0\0\0\0\0\0\0\0\xff\xff\xff\xff",
+        b"PWV5\0\0\0\x18\0\0\0\x1c\0\0\0\x02\0\0\0\x02\0\x96\x03\x05\x12\x34\x56\x78",
+    ];
+    file.concat()
+}
+
+/// Cues and entries around the last.
+fn asked_for_cues_and_waves(file: Vec<u8>) -> Vec<Call> {
+    let mut calls = vec![Call::Anlz { file }];
+    calls.extend([0, 1, 2, 3, u64::MAX].map(|k| Call::Cue { k }));
+    for sort in 2..7 {
+        calls.extend([0, 1, 2, u64::MAX].map(|k| Call::Wave { sort, k }));
+    }
+    calls
+}
+
 #[test]
-fn each_length_of_an_anlz_file() {
-    let file = small_file();
-    let longer = [&file[..], &small_file()[14..]].concat();
+fn each_value_of_each_byte_of_cue_lists_and_waveforms() {
+    let file = small_file_of_cues_and_waves();
+    assert_eq!(cues(&file).map(|cues| cues.len()), Ok(2));
+    assert_eq!(waveform(&file, 3).map(|waveform| waveform.count), Ok(2));
+    assert_eq!(waveform(&file, 5).map(|waveform| waveform.count), Ok(2));
+    for at in 0..file.len() {
+        for value in 0..=u8::MAX {
+            let mut file = file.clone();
+            file[at] = value;
+            let calls = asked_for_cues_and_waves(file);
+            assert_eq!(difference(&calls), None, "{value} at {at}");
+        }
+    }
+}
+
+/// The calls on each beginning of a file, with a fitting len_file and with others, and of the file with its sections,
+/// which start at `sections`, once more behind it.
+fn check_lengths(file: &[u8], sections: usize, asked: fn(Vec<u8>) -> Vec<Call>) {
+    let longer = [file, &file[sections..]].concat();
     for len in 0..=longer.len() {
         for len_file in [len, len + 1, file.len()] {
             let mut file = longer[..len].to_vec();
@@ -363,4 +430,14 @@ fn each_length_of_an_anlz_file() {
             assert_eq!(difference(&asked(file)), None, "{len_file} in {len}");
         }
     }
+}
+
+#[test]
+fn each_length_of_an_anlz_file() {
+    check_lengths(&small_file(), 14, asked);
+    check_lengths(
+        &small_file_of_cues_and_waves(),
+        12,
+        asked_for_cues_and_waves,
+    );
 }

@@ -1,22 +1,15 @@
-//! The programs as they are called from a shell.
+//! The programs as they are called from a shell; `grid` has tests of its own.
 
 use sarvoltig::{map_words, Intake, Table, Track, BLOCK};
+use sarvoltig_reference::generate;
 use sarvoltig_reference::schedule::{anlz_run, compared_run, Call};
-use sarvoltig_reference::{anlz, generate};
-use sarvoltig_tools::failure::Failure;
-use sarvoltig_tools::grid::show;
 use std::fs;
 use std::io::Write;
 use std::path::{Path, PathBuf};
 use std::process::{Command, Output, Stdio};
-use std::time::{Duration, Instant};
 
 fn stored_export() -> PathBuf {
     Path::new(env!("CARGO_MANIFEST_DIR")).join("data/demo.pdb")
-}
-
-fn stored_anlz() -> PathBuf {
-    Path::new(env!("CARGO_MANIFEST_DIR")).join("data/demo.anlz")
 }
 
 fn demo(words: &[&str]) -> Output {
@@ -334,170 +327,4 @@ fn calls_writes_the_lines_of_a_run() {
     for words in [&[][..], &["--anlz"], &["7", "8"]] {
         assert_eq!(calls(words).status.code(), Some(2), "{words:?}");
     }
-}
-
-fn grid(file: &Path, words: &[&str]) -> Output {
-    let mut grid = Command::new(env!("CARGO_BIN_EXE_grid"));
-    grid.arg(file).args(words).output().expect("grid runs")
-}
-
-/// What `grid` prints of a file, and why not all of it.
-fn printed(file: &[u8]) -> (String, Option<Failure>) {
-    let mut out = Vec::new();
-    let failure = show(file, &mut out, |_| ()).err();
-    (String::from_utf8(out).expect("text"), failure)
-}
-
-/// An ANLZ file with a section of its own, a grid of beats of these bar positions, 20 ms apart, and what follows.
-fn anlz_file(code: &[u8; 4], bars: &[u8], rest: &[u8]) -> Vec<u8> {
-    let len_grid = 0x18 + 8 * bars.len() as u8;
-    let len_file = 12 + 12 + len_grid + rest.len() as u8;
-    let mut file = [b"PMAI\0\0\0\x0c\0\0\0", &[len_file][..]].concat();
-    file.extend([code, &b"\0\0\0\x0c\0\0\0\x0c"[..]].concat());
-    file.extend([b"PQTZ\0\0\0\x18\0\0\0", &[len_grid][..]].concat());
-    file.extend([0, 0, 0, 0, 0, 0x80, 0, 0, 0, 0, 0, bars.len() as u8]);
-    for (time, &bar) in (0..).step_by(20).zip(bars) {
-        file.extend([0, bar, 0x30, 0xd4, 0, 0, 0, time]);
-    }
-    file.extend(rest);
-    file
-}
-
-#[test]
-fn the_stored_anlz_file_is_the_generated_one() {
-    let stored = fs::read(stored_anlz()).expect("a file");
-    assert!(
-        stored == anlz::generate::demo(),
-        "`anlz` writes another file"
-    );
-}
-
-#[test]
-fn grid_prints_sections_tempos_and_beats() {
-    let output = grid(&stored_anlz(), &[]);
-    assert!(output.status.success());
-    let text = String::from_utf8_lossy(&output.stdout);
-    let first = "\
-sections: 5
-     place  len_header     len_tag  code
-        28          16          76  PPTH
-       104          16         768  PVBR
-       872          24        2576  PQTZ
-      3448          24         136  PCOB
-      3584          24          80  PCOB
-
-tempos: 2
- from beat        time     BPM       beats
-         0    0:00.120   99.50         128
-       128    1:17.305  104.00         191
-
-beats: 319
-first beat        time     BPM  bar positions
-         0    0:00.120   99.50  1 2 3 4
-         4    0:02.532   99.50  1 2 3 4
-";
-    let last = "       316    3:05.767  104.00  1 2 3\n";
-    assert!(text.starts_with(first) && text.ends_with(last), "{text}");
-    assert_eq!(text.lines().count(), 15 + 319_usize.div_ceil(4));
-}
-
-#[test]
-fn grid_starts_a_line_with_each_bar() {
-    let (text, failure) = printed(&anlz_file(b"PPTH", &[3, 4, 2, 2, 3, 1, 4], &[]));
-    assert!(failure.is_none());
-    let bars = "\
-         0    0:00.000  125.00      3 4
-         2    0:00.040  125.00    2
-         3    0:00.060  125.00    2 3
-         5    0:00.100  125.00  1     4
-";
-    assert!(text.ends_with(bars), "{text}");
-    let (text, failure) = printed(&anlz_file(b"PPTH", &[], &[]));
-    assert!(failure.is_none() && text.contains("beats: 0\n"), "{text}");
-}
-
-#[test]
-fn grid_waits_for_each_beat() {
-    let file = anlz_file(b"PPTH", &[4, 1, 2, 2], &[]);
-    let mut times = Vec::new();
-    show(&file, &mut Vec::new(), |time| times.push(time)).expect("a grid");
-    assert_eq!(times, [0, 20, 40, 60].map(Duration::from_millis));
-    let path = written("waits.anlz", &file);
-    let start = Instant::now();
-    let output = grid(&path, &["--pause"]);
-    assert!(start.elapsed() >= Duration::from_millis(60));
-    assert!(output.status.success());
-    assert_eq!(String::from_utf8_lossy(&output.stdout), printed(&file).0);
-}
-
-#[test]
-fn grid_prints_no_control_characters() {
-    let file = anlz_file(b"\x1b[\x9b\\", &[1], &[]);
-    let (text, _) = printed(&file);
-    assert!(text.contains("  \\x1b[\\x9b\\\\\n"), "{text}");
-    let output = grid(Path::new("\x1b[2J\u{9b}\n"), &[]);
-    let error = String::from_utf8(output.stderr).expect("text");
-    for text in [text, error] {
-        assert!(!text.contains(|c: char| c.is_control() && c != '\n'));
-    }
-}
-
-#[test]
-fn grid_prints_the_sections_where_the_grid_is_refused() {
-    let no_section = |file: &[u8], number| {
-        let (text, failure) = printed(file);
-        assert_eq!(text, "");
-        assert!(matches!(failure, Some(Failure::Refused(refusal)) if refusal.number() == number));
-    };
-    let good = anlz_file(b"PPTH", &[1, 2], &[]);
-    no_section(&good[..good.len() - 1], 20);
-    no_section(&anlz_file(b"PPTH", &[1, 2], &[0; 11]), 21);
-    let sections = |file: &[u8], number| {
-        let (text, failure) = printed(file);
-        assert!(text.starts_with("sections: 2\n") && text.lines().count() == 4);
-        assert!(matches!(failure, Some(Failure::Refused(refusal)) if refusal.number() == number));
-    };
-    let written_over = |at: usize, byte: u8| {
-        let mut file = good.clone();
-        file[at] = byte;
-        file
-    };
-    sections(&written_over(24, b'p'), 22);
-    sections(&written_over(24 + 0x17, 3), 23);
-    sections(&written_over(24 + 0x18 + 9, 5), 24);
-}
-
-#[test]
-fn grid_refuses_what_is_no_anlz_file() {
-    let refused = grid(&stored_export(), &[]);
-    assert_eq!(refused.status.code(), Some(1));
-    assert_eq!(refused.stdout, b"");
-    let error = String::from_utf8_lossy(&refused.stderr);
-    assert!(
-        error.ends_with("refused 20: the header of the ANLZ file is broken\n"),
-        "{error}"
-    );
-    let missing = grid(Path::new("no such file"), &[]);
-    assert_eq!(missing.status.code(), Some(2));
-    let error = String::from_utf8_lossy(&missing.stderr);
-    assert!(error.starts_with("grid: \"no such file\": "), "{error}");
-    for words in [&["--loud"][..], &["--pause", "--pause"], &["--pause", "x"]] {
-        let output = grid(&stored_anlz(), words);
-        assert_eq!(output.status.code(), Some(2));
-        assert_eq!(output.stderr, b"usage: grid FILE [--pause]\n");
-    }
-}
-
-#[test]
-fn grid_ends_quietly_when_nobody_reads() {
-    let mut grid = Command::new(env!("CARGO_BIN_EXE_grid"))
-        .arg(stored_anlz())
-        .stdout(Stdio::piped())
-        .stderr(Stdio::piped())
-        .spawn()
-        .expect("grid runs");
-    drop(grid.stdout.take());
-    let output = grid.wait_with_output().expect("an end");
-    assert!(output.status.success());
-    assert_eq!(String::from_utf8_lossy(&output.stderr), "");
 }

@@ -2,7 +2,8 @@
 
 use std::{error, fmt};
 
-/// A refusal: its number, a value and an index entry (rules 2.1 to 2.21, 2.32 and 14.15).
+/// A refusal: its number, a value and an index entry (rules 2.1 to 2.21, 2.32,
+/// 14.15, 14.25 and 14.29).
 ///
 /// ```
 /// use sarvoltig_reference::model::{Refusal, Session};
@@ -12,7 +13,7 @@ use std::{error, fmt};
 /// ```
 #[derive(Clone, Copy, Debug, PartialEq, Eq, Hash)]
 pub struct Refusal {
-    /// 1 to 25.
+    /// 1 to 27.
     pub number: u8,
     /// A page for 11 to 15 and 25; for 17 the rows found, or the blocks of a packet; else 0.
     pub value: u64,

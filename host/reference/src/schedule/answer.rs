@@ -2,7 +2,7 @@
 
 use std::fmt;
 
-use crate::anlz::Beat;
+use crate::anlz::{Beat, Cue, CuePosition, WaveEntry};
 use crate::model::{Delivered, Encoding, RecordReply, Refusal, Rows, TextReply};
 
 /// The answer to a call, and the list that it wrote to if it had one.
@@ -41,6 +41,10 @@ pub enum Reply {
     Beats(u32),
     /// To the question for a beat.
     Beat(Beat),
+    /// To the question for a cue.
+    Cue(Cue),
+    /// To the question for an entry of a waveform.
+    WaveEntry(WaveEntry),
 }
 
 impl fmt::Display for Answer {
@@ -80,16 +84,33 @@ impl fmt::Display for Reply {
                 encoding,
             }) => write!(f, "text {place} {len} {}", encoding_name(*encoding)),
             Reply::Beats(beats) => write!(f, "beats {beats}"),
-            Reply::Beat(Beat {
-                bar_position,
-                tempo,
-                time,
-            }) => write!(f, "beat {bar_position} {tempo} {time}"),
+            Reply::Beat(beat) => f.write_str(&beat_line(beat)),
+            Reply::Cue(cue) => f.write_str(&cue_line(cue)),
+            Reply::WaveEntry(entry) => write!(f, "entry {}", entry.place),
             Reply::Rows(Rows::Waiting { page, rows, pages })
             | Reply::Record(_, RecordReply::Waiting { page, rows, pages })
             | Reply::Text(TextReply::Waiting { page, rows, pages }) => {
                 write!(f, "wait page {page} rows {rows} pages {pages}")
             }
+        }
+    }
+}
+
+fn beat_line(beat: &Beat) -> String {
+    let Beat {
+        bar_position,
+        tempo,
+        time,
+    } = beat;
+    format!("beat {bar_position} {tempo} {time}")
+}
+
+fn cue_line(cue: &Cue) -> String {
+    let (list, hot_cue) = (cue.list.number(), cue.hot_cue);
+    match cue.position {
+        CuePosition::Point { time } => format!("point {list} {hot_cue} {time}"),
+        CuePosition::Loop { time, loop_time } => {
+            format!("loop {list} {hot_cue} {time} {loop_time}")
         }
     }
 }

@@ -39,6 +39,8 @@ impl Call {
             Call::Anlz { file } => format!("anlz {}", hex(file)),
             Call::Beats => "beats".to_string(),
             Call::Beat { k } => format!("beat {k}"),
+            Call::Cue { k } => format!("cue {k}"),
+            Call::Wave { sort, k } => format!("wave {sort} {k}"),
         })
     }
 
@@ -70,6 +72,11 @@ impl Call {
             ["anlz", file] => Call::Anlz { file: bytes(file)? },
             ["beats"] => Call::Beats,
             ["beat", k] => Call::Beat { k: number(k)? },
+            ["cue", k] => Call::Cue { k: number(k)? },
+            ["wave", sort, k] => Call::Wave {
+                sort: number(sort)?,
+                k: number(k)?,
+            },
             [question, table, ref numbers @ ..] => parse_question(question, table, numbers)?,
             _ => return None,
         };

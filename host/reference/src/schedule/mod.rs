@@ -116,6 +116,18 @@ pub enum Call {
         /// The beat's number, from 0.
         k: u64,
     },
+    /// The question for a cue.
+    Cue {
+        /// The cue's number, from 0, through all lists.
+        k: u64,
+    },
+    /// The question for an entry of a waveform.
+    Wave {
+        /// The waveform's sort.
+        sort: u64,
+        /// The entry's number, from 0.
+        k: u64,
+    },
 }
 
 impl Call {
@@ -126,9 +138,13 @@ impl Call {
     /// use sarvoltig_reference::schedule::Call;
     ///
     /// assert!(Call::Beat { k: 0 }.asks_anlz());
+    /// assert!(Call::Wave { sort: 3, k: 0 }.asks_anlz());
     /// assert!(!Call::Record { table: 0, k: 0 }.asks_anlz());
     /// ```
     pub fn asks_anlz(&self) -> bool {
-        matches!(self, Call::Beats | Call::Beat { .. })
+        matches!(
+            self,
+            Call::Beats | Call::Beat { .. } | Call::Cue { .. } | Call::Wave { .. }
+        )
     }
 }

@@ -104,8 +104,20 @@ impl Call {
             Call::TextIn { table, i, slot } => {
                 session.text_in(table, list, i, slot).map(Reply::Text)
             }
-            Call::Beats => anlz::beats(anlz).map(Reply::Beats),
-            Call::Beat { k } => anlz::beat(anlz, k).map(Reply::Beat),
+            Call::Beats | Call::Beat { .. } | Call::Cue { .. } | Call::Wave { .. } => {
+                return self.reply_of_anlz(anlz);
+            }
+        })
+    }
+
+    /// Asks the ANLZ file.
+    fn reply_of_anlz(&self, file: &[u8]) -> Option<Result<Reply, Refusal>> {
+        Some(match *self {
+            Call::Beats => anlz::beats(file).map(Reply::Beats),
+            Call::Beat { k } => anlz::beat(file, k).map(Reply::Beat),
+            Call::Cue { k } => anlz::cue(file, k).map(Reply::Cue),
+            Call::Wave { sort, k } => anlz::wave(file, sort, k).map(Reply::WaveEntry),
+            _ => return None,
         })
     }
 

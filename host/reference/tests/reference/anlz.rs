@@ -1,18 +1,14 @@
-//! ANLZ files: the edges of each rule, and generated files.
+//! ANLZ files: the edges of each rule about sections and the beat grid.
 
-use std::collections::BTreeMap;
 use std::slice;
 
-use sarvoltig_reference::anlz::damage::{apply, Kind};
 use sarvoltig_reference::anlz::{beat, beats, generate, grid, sections, Beat, Section};
 use sarvoltig_reference::model::Refusal;
-use sarvoltig_reference::rng::Rng;
-use sarvoltig_reference::schedule::anlz_file;
 
 use crate::refused;
 
 /// A section of these bytes behind the envelope.
-fn section(code: &[u8; 4], len_header: u32, len_tag: u32, body: &[u8]) -> Vec<u8> {
+pub fn section(code: &[u8; 4], len_header: u32, len_tag: u32, body: &[u8]) -> Vec<u8> {
     let mut bytes = code.to_vec();
     bytes.extend(len_header.to_be_bytes());
     bytes.extend(len_tag.to_be_bytes());
@@ -21,7 +17,7 @@ fn section(code: &[u8; 4], len_header: u32, len_tag: u32, body: &[u8]) -> Vec<u8
 }
 
 /// A file of these sections, with a header of 12 bytes.
-fn file(sections: &[Vec<u8>]) -> Vec<u8> {
+pub fn file(sections: &[Vec<u8>]) -> Vec<u8> {
     let body = sections.concat();
     section(b"PMAI", 12, 12 + body.len() as u32, &body)
 }
@@ -41,16 +37,16 @@ fn grid_of(len_beats: u32, bars: &[u16], len_tag: usize) -> Vec<u8> {
 }
 
 /// A good grid of these bar positions.
-fn good_grid(bars: &[u16]) -> Vec<u8> {
+pub fn good_grid(bars: &[u16]) -> Vec<u8> {
     grid_of(bars.len() as u32, bars, 0x18 + 8 * bars.len())
 }
 
 /// A section of 14 bytes.
-fn other() -> Vec<u8> {
+pub fn other() -> Vec<u8> {
     section(b"PPTH", 13, 14, &[7, 7])
 }
 
-fn plain<T>(number: u8) -> Result<T, Refusal> {
+pub fn plain<T>(number: u8) -> Result<T, Refusal> {
     refused(number, 0)
 }
 
@@ -370,85 +366,6 @@ fn sections_are_listed() {
     ];
     assert_eq!(sections(&file), Ok(listed.to_vec()));
     assert_eq!(listed[1].end(), file.len() as u64);
-}
-
-#[test]
-fn generated_files_have_what_was_put_there() {
-    for seed in 0..3000 {
-        let file = generate::random(&mut Rng::new(seed));
-        let found = grid(&file.bytes).map_err(|refusal| refusal.number);
-        assert_eq!(found, file.expected, "seed {seed}");
-        let beats = file.expected.clone().unwrap_or_default();
-        let count = file.expected.map(|beats| beats.len() as u32);
-        assert_eq!(counted(&file.bytes), count);
-        for k in (0..beats.len()).step_by(1 + beats.len() / 400) {
-            assert_eq!(beat(&file.bytes, k as u64), Ok(beats[k]));
-        }
-    }
-}
-
-#[test]
-fn free_bytes_change_no_answer() {
-    let mut rng = Rng::new(7);
-    let mut changed = 0;
-    for seed in 0..3000 {
-        let file = generate::random(&mut Rng::new(seed));
-        let mut other = file.bytes.clone();
-        for at in file.free.iter().cloned().flatten() {
-            other[at] = rng.below(256) as u8;
-        }
-        assert_eq!(grid(&other), grid(&file.bytes), "seed {seed}");
-        assert_eq!(sections(&other), sections(&file.bytes), "seed {seed}");
-        changed += usize::from(other != file.bytes);
-    }
-    assert!(changed > 2000, "{changed}");
-}
-
-/// How often the files of some seeds have each refusal, 0 for none.
-fn tally(files: impl Iterator<Item = Vec<u8>>) -> BTreeMap<u8, u32> {
-    let mut tally = BTreeMap::new();
-    for file in files {
-        *tally.entry(counted(&file).err().unwrap_or(0)).or_default() += 1;
-    }
-    tally
-}
-
-#[test]
-fn each_kind_of_damage_gives_its_refusals() {
-    let kinds: [(Kind, &[u8]); 12] = [
-        (Kind::FileCode, &[20]),
-        (Kind::FileLenHeader, &[20, 21]),
-        (Kind::LenFile, &[20]),
-        (Kind::Cut, &[20, 21]),
-        (Kind::Extended, &[20, 21]),
-        (Kind::SectionCode, &[22]),
-        (Kind::SectionLenHeader, &[21]),
-        (Kind::LenTag, &[21]),
-        (Kind::LenBeats, &[23]),
-        (Kind::BarPosition, &[24]),
-        (Kind::GridLength, &[21, 23]),
-        (Kind::Bytes, &[20, 21, 24]),
-    ];
-    assert_eq!(kinds.map(|(kind, _)| kind), Kind::ALL);
-    for (kind, refusals) in kinds {
-        let reached = tally((0..1000).map(|seed| {
-            let mut rng = Rng::new(seed);
-            let mut file = generate::random(&mut rng).bytes;
-            apply(kind, &mut file, &mut rng);
-            file
-        }));
-        for number in refusals {
-            assert!(reached.get(number) >= Some(&10), "{kind:?}: {reached:?}");
-        }
-    }
-}
-
-#[test]
-fn every_refusal_is_reached_often() {
-    let reached = tally((0..5000).map(|seed| anlz_file(&mut Rng::new(seed))));
-    for number in [0, 20, 21, 22, 23, 24] {
-        assert!(reached.get(&number) >= Some(&200), "{reached:?}");
-    }
 }
 
 #[test]

@@ -100,6 +100,33 @@ fn other_lines_about_an_anlz_file_are_no_calls() {
 }
 
 #[test]
+fn other_lines_about_cues_and_waves_are_no_calls() {
+    let lines = [
+        "cue",
+        "cue ",
+        "cue -",
+        "cue +1",
+        "cue 18446744073709551616",
+        "cue 0 0",
+        "cues",
+        "Cue 0",
+        "wave",
+        "wave 3",
+        "wave 3 ",
+        "wave 3 -",
+        "wave - 0",
+        "wave 3  0",
+        "wave 3 0 0",
+        "wave 18446744073709551616 0",
+        "wave 3 18446744073709551616",
+        "waves 3 0",
+    ];
+    for line in lines {
+        assert_eq!(Call::parse_line(line), None, "{line}");
+    }
+}
+
+#[test]
 fn other_lines_about_a_packet_are_no_calls() {
     let lines = [
         "packet",
@@ -169,6 +196,70 @@ refused 20 0 0
 ";
     let replayed = replay(&input.join("\n"));
     assert_eq!((replayed.output.as_str(), replayed.status), (output, 0));
+}
+
+#[test]
+fn sorts_and_numbers_of_entries_have_64_bits() {
+    let call = Call::Wave {
+        sort: u64::MAX,
+        k: u64::MAX,
+    };
+    let line = "wave 18446744073709551615 18446744073709551615";
+    assert_eq!(call.to_line().as_deref(), Some(line));
+    assert_eq!(Call::parse_line(line), Some(call));
+    let call = Call::Cue { k: u64::MAX };
+    assert_eq!(Call::parse_line("cue 18446744073709551615"), Some(call));
+}
+
+/// The line of a file with a list of a hot point, one of a memory loop, and a
+/// waveform of sort 5 with five entries.
+fn line_of_cues_and_a_wave() -> String {
+    let list =
+        |kind: &str, entry: &str| format!("50434f420000001800000050{kind}ffff0001ffffffff{entry}");
+    let entry = |hot_cue: &str, kind: &str, times: &str| {
+        let order = "000000010010000000010002";
+        let rest = "00".repeat(0x10);
+        format!("504350540000001c00000038{hot_cue}{order}{kind}0003e8{times}{rest}")
+    };
+    let sections = [
+        list("00000001", &entry("00000003", "01", "00000190ffffffff")),
+        list("00000000", &entry("00000000", "02", "0000025800000190")),
+        "505756350000001800000022000000020000000500960305".to_string(),
+        "11112222333344445555".to_string(),
+    ];
+    let sections = sections.concat();
+    let len_file = 12 + sections.len() / 2;
+    format!("anlz 504d41490000000c{len_file:08x}{sections}")
+}
+
+#[test]
+fn cues_and_waves_replay_without_a_checksum() {
+    let file = line_of_cues_and_a_wave();
+    let wrong_kind = file.replace("020003e8", "030003e8");
+    let wrong_width = file.replace("50575635", "50575633");
+    // lines with their answers; a file has none
+    let lines = [
+        ("cue 0", "refused 20 0 0\n"),
+        ("wave 3 0", "refused 20 0 0\n"),
+        (&file, ""),
+        ("cue 0", "point 1 3 400\n"),
+        ("cue 1", "loop 0 0 600 400\n"),
+        ("cue 2", "refused 18 0 0\n"),
+        ("wave 5 0", "entry 196\n"),
+        ("wave 5 4", "entry 204\n"),
+        ("wave 5 5", "refused 18 0 0\n"),
+        ("wave 3 0", "refused 18 0 0\n"),
+        ("wave 4294967301 0", "refused 18 0 0\n"),
+        (&wrong_kind, ""),
+        ("cue 0", "refused 26 0 0\n"),
+        ("beats", "refused 22 0 0\n"),
+        (&wrong_width, ""),
+        ("wave 3 0", "refused 27 0 0\n"),
+        ("wave 5 0", "refused 18 0 0\n"),
+    ];
+    let replayed = replay(&lines.map(|(line, _)| line).join("\n"));
+    assert_eq!(replayed.output, lines.map(|(_, answer)| answer).concat());
+    assert_eq!(replayed.status, 0);
 }
 
 #[test]

@@ -1,7 +1,10 @@
 //! The tests of the reference.
 
 mod anlz;
+mod anlz_files;
+mod anlz_runs;
 mod counts;
+mod cues;
 mod desk;
 mod entries;
 mod examples;
@@ -12,6 +15,7 @@ mod packets;
 mod pages;
 mod refusals;
 mod runs;
+mod waves;
 
 use sarvoltig_reference::model::{RecordReply, Refusal, Session, BLOCK_SIZE};
 

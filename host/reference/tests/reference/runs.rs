@@ -30,7 +30,9 @@ fn answer_by_received(received: &Received, call: &Call, read_from: &[u32]) -> Op
         | Call::List { .. }
         | Call::Anlz { .. }
         | Call::Beats
-        | Call::Beat { .. } => return None,
+        | Call::Beat { .. }
+        | Call::Cue { .. }
+        | Call::Wave { .. } => return None,
         Call::Deliver { block, ref piece } => {
             delivered_by_received(received, block, piece).map(Reply::Delivered)
         }

@@ -1,7 +1,9 @@
-//! `grid FILE [--pause]`: the sections, the tempos and the beats of an ANLZ file on a terminal.
+//! `grid FILE [--pause] [--width N]`: the sections, the tempos, the cues, the waveforms and the beats of an ANLZ file on
+//! a terminal.
 //!
-//! With `--pause` each beat is printed when its time has come, without it all at once. A file that is refused ends with
-//! status 1, one that cannot be read with 2.
+//! With `--pause` each beat is printed when its time has come, without it all at once. Pictures of waveforms have at most
+//! N columns, 80 where no other number is given. What is refused of a file ends with status 1 behind all the rest, a file
+//! that cannot be read with 2.
 
 use sarvoltig_tools::failure::Failure;
 use sarvoltig_tools::grid::show;
@@ -9,27 +11,43 @@ use std::env;
 use std::ffi::OsString;
 use std::fs;
 use std::io;
-use std::path::{Path, PathBuf};
+use std::num::NonZeroUsize;
+use std::path::PathBuf;
 use std::process::ExitCode;
 use std::thread::sleep;
 use std::time::{Duration, Instant};
 
-const USAGE: &str = "usage: grid FILE [--pause]";
+const USAGE: &str = "usage: grid FILE [--pause] [--width N]";
+
+/// Columns of a picture.
+const WIDTH: usize = 80;
 
 /// What the command line asks for.
 struct Options {
     file: PathBuf,
     pause: bool,
+    width: usize,
 }
 
 impl Options {
-    /// A file, and `--pause` before or behind it.
-    fn parse(words: impl Iterator<Item = OsString>) -> Option<Self> {
-        let (options, files): (Vec<_>, Vec<_>) = words.partition(|word| word == "--pause");
+    /// A file and each option at most once, in any order.
+    fn parse(mut words: impl Iterator<Item = OsString>) -> Option<Self> {
+        let (mut files, mut pauses, mut widths) = (Vec::new(), 0, Vec::new());
+        while let Some(word) = words.next() {
+            match word.to_str() {
+                Some("--pause") => pauses += 1,
+                Some("--width") => widths.push(words.next()?.to_str()?.parse().ok()?),
+                _ => files.push(word),
+            }
+        }
         let [file] = <[OsString; 1]>::try_from(files).ok()?;
-        (options.len() < 2).then(|| Self {
+        let width = widths
+            .first()
+            .map_or(WIDTH, |width: &NonZeroUsize| width.get());
+        (pauses < 2 && widths.len() < 2).then(|| Self {
             file: file.into(),
-            pause: !options.is_empty(),
+            pause: pauses == 1,
+            width,
         })
     }
 }
@@ -43,22 +61,22 @@ fn clock() -> impl FnMut(Duration) {
     }
 }
 
-fn run(file: &Path, pause: bool) -> Result<(), Failure> {
-    let file = fs::read(file)?;
+fn run(options: &Options) -> Result<(), Failure> {
+    let file = fs::read(&options.file)?;
     let mut out = io::stdout().lock();
-    if pause {
-        show(&file, &mut out, clock())
+    if options.pause {
+        show(&file, options.width, &mut out, clock())
     } else {
-        show(&file, &mut out, |_| ())
+        show(&file, options.width, &mut out, |_| ())
     }
 }
 
 fn main() -> ExitCode {
-    let Some(Options { file, pause }) = Options::parse(env::args_os().skip(1)) else {
+    let Some(options) = Options::parse(env::args_os().skip(1)) else {
         eprintln!("{USAGE}");
         return ExitCode::from(2);
     };
-    let failure = match run(&file, pause) {
+    let failure = match run(&options) {
         Ok(()) => return ExitCode::SUCCESS,
         // whoever reads what is printed has seen enough
         Err(Failure::Io(error)) if error.kind() == io::ErrorKind::BrokenPipe => {
@@ -66,7 +84,7 @@ fn main() -> ExitCode {
         }
         Err(failure) => failure,
     };
-    eprintln!("grid: {file:?}: {failure}");
+    eprintln!("grid: {:?}: {failure}", options.file);
     match failure {
         Failure::Refused(_) => ExitCode::from(1),
         Failure::Io(_) => ExitCode::from(2),

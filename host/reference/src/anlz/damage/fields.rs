@@ -1,6 +1,6 @@
 //! Fields that get another value.
 
-use super::target::Target;
+use super::target::{has_header, Target};
 use crate::anlz::{BEAT, ENTRIES, ENVELOPE};
 
 /// Numbers at which readers may go wrong.
@@ -67,7 +67,7 @@ impl Target<'_> {
 
     /// Another len_beats, also such that its bytes counted with 32 bits are right.
     pub fn len_beats(&mut self) {
-        let Some((place, _)) = self.grid() else {
+        let Some((place, _)) = self.grid().filter(has_header) else {
             return;
         };
         let at = place + 0x14;
@@ -115,7 +115,7 @@ impl Target<'_> {
 
     /// Changes a number: off by one, in one bit, to one of `near`, to an edge,
     /// or to its bytes the other way round.
-    fn change_number(&mut self, at: usize, near: &[u32]) {
+    pub fn change_number(&mut self, at: usize, near: &[u32]) {
         let old = self.number(at);
         let number = match self.rng.below(10) {
             0 => old.wrapping_add(1),

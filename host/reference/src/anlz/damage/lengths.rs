@@ -1,7 +1,7 @@
-//! Files and grids of another length.
+//! Files and sections of another length.
 
-use super::target::Target;
-use crate::anlz::{BEAT, ENTRIES, ENVELOPE};
+use super::target::{Span, Target};
+use crate::anlz::{ENTRIES, ENVELOPE};
 
 impl Target<'_> {
     /// Cuts up to 12 bytes off, or any number.
@@ -23,28 +23,36 @@ impl Target<'_> {
         self.follow_len_file_mostly();
     }
 
-    /// Gives a grid another end; then its tag is often the end of the file.
-    pub fn grid_length(&mut self) {
-        let Some((place, end)) = self.grid() else {
-            return;
-        };
+    /// Gives a section with entries of a width another end; then its tag is
+    /// often the end of the file.
+    pub fn section_length(&mut self, section: Option<Span>, width: usize) {
+        let Some((place, end)) = section else { return };
         if self.rng.chance(1, 2) {
             self.bytes.truncate(end);
         }
         let old = end - place;
         let short = ENVELOPE + self.rng.index(ENTRIES - ENVELOPE + 1);
-        let off = 1 + self.rng.index(BEAT + 1);
+        let off = 1 + self.rng.index(width + 1);
         let new = self
             .rng
             .pick(&[short, old + off, old.saturating_sub(off), ENTRIES])
             .max(ENVELOPE);
+        let len_header = self.number(place + 0x04);
+        self.resize((place, end), new);
+        if self.rng.chance(1, 8) {
+            self.put_number(place + 0x04, len_header);
+        }
+    }
+
+    /// Gives a section another length, which len_tag, len_header and len_file
+    /// follow.
+    pub fn resize(&mut self, (place, end): Span, new: usize) {
+        let old = end - place;
         let filler = vec![self.rng.below(4) as u8; new.saturating_sub(old)];
         self.bytes.splice(place + old.min(new)..end, filler);
         self.put_number(place + 0x08, new as u32);
         let len_header = self.number(place + 0x04);
-        if self.rng.chance(7, 8) {
-            self.put_number(place + 0x04, len_header.min(new as u32));
-        }
+        self.put_number(place + 0x04, len_header.min(new as u32));
         self.follow_len_file();
     }
 

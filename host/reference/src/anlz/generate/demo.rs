@@ -1,7 +1,7 @@
 //! The demo file: the analysis of the first track of the demo export.
 
 use super::write::{file, Tag};
-use crate::anlz::Beat;
+use crate::anlz::{Beat, Cue, CueListType, CuePosition};
 
 const PATH: &str = "/Contents/01 Morning Tram.mp3";
 
@@ -16,32 +16,37 @@ const CHANGE: usize = 128;
 /// Microseconds of 100 minutes.
 const HUNDRED_MINUTES: u64 = 6_000_000_000;
 
+/// Entries of the waveform for each second.
+const ENTRIES_A_SECOND: u64 = 150;
+
+/// The greatest height of the waveform in each part of the track, of 16 beats.
+const LEVELS: [u32; 20] = [
+    6, 9, 13, 17, 20, 23, 26, 28, 12, 14, 31, 30, 29, 31, 10, 16, 31, 30, 20, 8,
+];
+
 /// A small file as rekordbox writes them: path, seek index, beat grid with a
-/// change of tempo, hot cues and memory points.
+/// change of tempo, hot cues, memory cues and a waveform.
 ///
 /// ```
-/// use sarvoltig_reference::anlz::{beat, generate};
+/// use sarvoltig_reference::anlz::{beat, cues, generate, waveform};
 ///
 /// let file = generate::demo();
-/// assert!(file.len() < 4096);
+/// assert!(file.len() < 32_768);
 /// assert_eq!(beat(&file, 127)?.tempo, 9_950);
 /// assert_eq!(beat(&file, 128)?.tempo, 10_400);
+/// assert_eq!(cues(&file)?.len(), 5);
+/// assert_eq!(waveform(&file, 3)?.count, 28_050);
 /// # Ok::<(), sarvoltig_reference::model::Refusal>(())
 /// ```
 pub fn demo() -> Vec<u8> {
     let beats = beats();
-    let time = |beat: usize| beats[beat].time;
-    let hot_cues = [
-        cue(1, time(0), None),
-        cue(2, time(CHANGE), Some(time(CHANGE + 16))),
-    ];
-    let memory_points = [cue(0, time(64), None)];
     let tags = [
         path(),
         seek_index(),
         Tag::grid(&beats),
-        cue_list(1, &hot_cues),
-        cue_list(0, &memory_points),
+        hot_cues(&beats),
+        memory_cues(&beats),
+        waveform(&beats),
     ];
     file(&[0, 0, 0, 1, 0, 1, 0, 0, 0, 1, 0, 0, 0, 0, 0, 0], &tags)
 }
@@ -89,23 +94,57 @@ fn seek_index() -> Tag {
     tag(*b"PVBR", 0x10, body)
 }
 
-fn cue_list(kind: u32, cues: &[Vec<u8>]) -> Tag {
-    let mut body = kind.to_be_bytes().to_vec();
-    body.extend((cues.len() as u32).to_be_bytes());
-    body.extend(u32::MAX.to_be_bytes());
-    body.extend(cues.concat());
-    tag(*b"PCOB", 0x18, body)
+fn point(time: u32) -> CuePosition {
+    CuePosition::Point { time }
 }
 
-/// A cue, or a loop where there is a time to go back at.
-fn cue(hot_cue: u32, time: u32, loop_time: Option<u32>) -> Vec<u8> {
-    let mut entry = b"PCPT".to_vec();
-    for number in [0x1c, 0x38, hot_cue, 1, 0x0010_0000, 0xffff_ffff] {
-        entry.extend(number.to_be_bytes());
+/// A loop of so many beats from one on.
+fn loop_of(beats: &[Beat], first: usize, count: usize) -> CuePosition {
+    CuePosition::Loop {
+        time: beats[first].time,
+        loop_time: beats[first + count].time,
     }
-    entry.extend([1 + u8::from(loop_time.is_some()), 0, 0x03, 0xe8]);
-    entry.extend(time.to_be_bytes());
-    entry.extend(loop_time.unwrap_or(u32::MAX).to_be_bytes());
-    entry.resize(0x38, 0);
-    entry
+}
+
+/// Hot cue A where the track begins, a loop as hot cue B where its tempo
+/// changes, and hot cue C a little before a beat.
+fn hot_cues(beats: &[Beat]) -> Tag {
+    let list = CueListType::Hot;
+    let positions = [
+        point(beats[0].time),
+        loop_of(beats, CHANGE, 16),
+        point(beats[254].time - 12),
+    ];
+    let cues = (1..).zip(positions).map(|(hot_cue, position)| Cue {
+        list,
+        hot_cue,
+        position,
+    });
+    Tag::cue_list(list, &cues.collect::<Vec<_>>())
+}
+
+/// A point, and a loop near the end.
+fn memory_cues(beats: &[Beat]) -> Tag {
+    let list = CueListType::Memory;
+    let cues = [point(beats[64].time), loop_of(beats, 290, 8)].map(|position| Cue {
+        list,
+        hot_cue: 0,
+        position,
+    });
+    Tag::cue_list(list, &cues)
+}
+
+/// A made-up waveform: a beat starts loud and fades.
+fn waveform(beats: &[Beat]) -> Tag {
+    let count = DURATION * ENTRIES_A_SECOND / 1_000_000;
+    let entry = |k: u64| {
+        let time = (1_000 * k / ENTRIES_A_SECOND) as u32;
+        let beat = beats.partition_point(|beat| beat.time <= time);
+        let beat = beat.saturating_sub(1);
+        let level = LEVELS[beat / 16] - (5 * (beat / 4) % 4) as u32;
+        let since = time.abs_diff(beats[beat].time).min(600);
+        0xa0 | (level - level * since / 1_000) as u8
+    };
+    let entries: Vec<u8> = (0..count).map(entry).collect();
+    Tag::wave(*b"PWV3", 1, &entries)
 }

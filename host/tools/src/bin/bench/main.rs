@@ -1,9 +1,11 @@
 //! `bench`: the library beside something else, in one run: taking in, block by block and in packets, against memcpy,
 //! questions and reading from lists against the reference, pages of recording codes against the reference and against
-//! pages without codes, beats against the reference and against a pass that allocates nothing.
+//! pages without codes, beats, cues and waveforms of ANLZ files against the reference, beats also against a pass that
+//! allocates nothing.
 
-use sarvoltig::{map_words, Accepted, Anlz, Beat, Encoding, Intake, Table, Track, BLOCK};
-use sarvoltig_reference::anlz;
+mod anlz_files;
+
+use sarvoltig::{map_words, Accepted, Encoding, Intake, Table, Track, BLOCK};
 use sarvoltig_reference::generate;
 use sarvoltig_reference::model::{self, Session};
 use sarvoltig_reference::rng::Rng;
@@ -410,121 +412,6 @@ fn codes(what: &str, page: CodePage, runs: usize) {
     });
 }
 
-/// Beats of the grid that is asked.
-const BEATS: u32 = 3_000;
-
-/// A beat in the middle of the grid.
-const MIDDLE_BEAT: u64 = 1_500;
-
-/// An ANLZ file: the sections of the demo's, and a beat grid before them, which so is the one that counts.
-fn anlz_file() -> Vec<u8> {
-    const LEN_FILE: usize = 0x08;
-    const SECTIONS: usize = 0x1c;
-    let demo = anlz::generate::demo();
-    let mut file = demo[..SECTIONS].to_vec();
-    file.extend(b"PQTZ");
-    for number in [0x18, 0x18 + 8 * BEATS, 0, 0x0080_0000, BEATS] {
-        file.extend(number.to_be_bytes());
-    }
-    for k in 0..BEATS {
-        file.extend([1 + (k % 4) as u16, 12_500].map(u16::to_be_bytes).concat());
-        file.extend((480 * k).to_be_bytes());
-    }
-    file.extend(&demo[SECTIONS..]);
-    let len_file = file.len() as u32;
-    file[LEN_FILE..LEN_FILE + 4].copy_from_slice(&len_file.to_be_bytes());
-    file
-}
-
-/// The number at a place of an ANLZ file.
-fn anlz_number(file: &[u8], at: usize) -> Option<usize> {
-    let bytes = file.get(at..at + 4)?;
-    Some(u32::from_be_bytes(bytes.try_into().ok()?) as usize)
-}
-
-/// The entries of the beat grid, after a look at the envelope of every section (rules 14.2 to 14.10).
-fn grid_entries(file: &[u8]) -> Option<&[u8]> {
-    let mut at = anlz_number(file, 0x04)?;
-    let is_whole = anlz_number(file, 0x08)? == file.len() && (12..=file.len()).contains(&at);
-    if !file.starts_with(b"PMAI") || !is_whole {
-        return None;
-    }
-    let mut grid = None;
-    while at < file.len() {
-        let (len_header, len_tag) = (anlz_number(file, at + 4)?, anlz_number(file, at + 8)?);
-        let tag = file.get(at..at + len_tag)?;
-        if !(12..=len_tag).contains(&len_header) {
-            return None;
-        }
-        if tag.starts_with(b"PQTZ") {
-            grid = grid.or(Some(tag));
-        }
-        at += len_tag;
-    }
-    let grid = grid?;
-    let fits = 0x18 + 8 * anlz_number(grid, 0x14)? == grid.len();
-    fits.then(|| &grid[0x18..])
-}
-
-/// The number of beats and beat `k`, after a look at the bar position of every beat, without an allocation.
-fn plain_pass(file: &[u8], k: u64) -> Option<(u32, Beat)> {
-    let entries = grid_entries(file)?.chunks_exact(8);
-    let bar_position = |entry: &[u8]| u16::from_be_bytes([entry[0], entry[1]]);
-    if !entries
-        .clone()
-        .all(|entry| (1..=4).contains(&bar_position(entry)))
-    {
-        return None;
-    }
-    let entry = entries.clone().nth(k as usize)?;
-    let beat = Beat {
-        bar_position: bar_position(entry),
-        tempo: u16::from_be_bytes([entry[2], entry[3]]),
-        time: anlz_number(entry, 4)? as u32,
-    };
-    Some((entries.len() as u32, beat))
-}
-
-/// One line for a question against the reference, which makes a list of all beats, and one against the plain pass.
-fn against_passes(what: &str, file: &[u8], runs: usize, question: impl Fn(&Anlz)) {
-    let library = || timed(|| question(&Anlz::new(black_box(file))));
-    let reference = || timed(|| anlz::grid(black_box(file)));
-    let times = fastest(runs, library, reference);
-    line(&format!("{what}, against the reference's pass"), times);
-    let plain = || timed(|| plain_pass(black_box(file), MIDDLE_BEAT));
-    let times = fastest(runs, library, plain);
-    line(
-        &format!("{what}, against a pass that allocates nothing"),
-        times,
-    );
-}
-
-/// Number of beats, one beat, and all beats of an ANLZ file.
-fn beats() {
-    let file = anlz_file();
-    let all: Vec<Beat> = Anlz::new(&file).iter().expect("a grid").collect();
-    let middle = all[MIDDLE_BEAT as usize];
-    assert_eq!(plain_pass(&file, MIDDLE_BEAT), Some((BEATS, middle)));
-    let reference = anlz::grid(&file).expect("a grid");
-    let numbers = reference
-        .iter()
-        .map(|beat| (beat.bar_position, beat.tempo, beat.time));
-    assert!(numbers.eq(all
-        .iter()
-        .map(|beat| (beat.bar_position, beat.tempo, beat.time))));
-    against_passes("number of beats, grid of 3,000", &file, 100_000, |anlz| {
-        black_box(anlz.beats().expect("a grid"));
-    });
-    against_passes("one beat, grid of 3,000", &file, 100_000, |anlz| {
-        black_box(anlz.beat(black_box(MIDDLE_BEAT)).expect("a beat"));
-    });
-    against_passes("all beats one by one, grid of 3,000", &file, 200, |anlz| {
-        anlz.iter().expect("a grid").for_each(|beat| {
-            black_box(beat);
-        });
-    });
-}
-
 fn main() {
     println!("| What | Library, ms | Other, ms | Ratio |\n|---|---|---|---|");
     taking_in(8, 100);
@@ -552,5 +439,7 @@ fn main() {
         CodePage::most_entries(),
         100,
     );
-    beats();
+    anlz_files::beats();
+    anlz_files::cues();
+    anlz_files::waves();
 }
