@@ -1,4 +1,6 @@
 // The map of a file: a bit for each block, in 64-bit words (rules 1.7 to 1.9, 1.17 and 2.4).
+#![tactic(auto)]
+
 ghost use Rattle.std.specs.Prelude.{◌≡◌, ◌*◌, ◌<◌, ◌≤◌, ◌^◌, length};
 ghost use Rattle.std.specs.Int.Count.{ones};
 ghost use Rattle.bitmap.specs.Words.{block_count, word_count};

@@ -1,4 +1,6 @@
 // The sizes of a block, a page and a row group, and where a page stands in the image.
+#![tactic(auto)]
+
 ghost use Rattle.std.specs.Prelude.{◌≡◌};
 ghost use Rattle.format.specs.Place.{page_bounds, linkable};
 

@@ -1,7 +1,7 @@
 -- Lists of numbers, one for each x of some type, joined one behind the other. Each has a key, and lists with a number in common have one key.
 --     joined_holds       what holds of the numbers of each list holds of those of the joined one
 --     joined_distinct    where each list's numbers differ, those of lists with different keys all do
-use mathlib.Core.Path.{◌≡◌, sym, ◌∙◌}
+use mathlib.Core.Path.{◌≡◌, sym, subst, ◌∙◌}
 use mathlib.Core.Bool.{true, false, false≢true}
 use mathlib.Core.List.{List, [], ◌∷◌, ◌++◌, map}
 use mathlib.Core.Logic.{⊎_elim}
@@ -30,7 +30,7 @@ module _ {X : Type 0} (list : X → List ℕ) where
     elsewhere x (y ∷ xs) f n m e =
         let keys = map key xs in
         ⊎_elim
-        (λ l. false≢true (sym f ∙ rw (apart x y n m l) (member_first (key y) keys)))
+        (λ l. false≢true (sym f ∙ subst (λ (k : ℕ). is_member k (key y ∷ keys) ≡ true) (sym (apart x y n m l)) (member_first (key y) keys)))
         (λ r. elsewhere x xs (fewer_members (key x) (key y) keys f) n m r)
         (append_cases n (list y) (joined xs) e)
 

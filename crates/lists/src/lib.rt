@@ -1,4 +1,6 @@
 // Definitions and laws about tests, searches and lists that the other crates cite, and a part of a slice.
+#![tactic(auto)]
+
 ghost use Rattle.std.specs.Prelude.{◌≡◌};
 ghost use Rattle.lists.specs.Subslice.{subslice};
 

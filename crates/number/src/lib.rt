@@ -1,4 +1,6 @@
 // Little-endian and big-endian numbers in a byte slice. A byte past the slice's end counts as 0.
+#![tactic(auto)]
+
 ghost use Rattle.std.specs.Prelude.{◌≡◌, ◌+◌, ◌*◌, ◌^◌, ◌<◌};
 ghost use Rattle.number.specs.Number.{byte_at, le16, le24, le32, be16, be32};
 

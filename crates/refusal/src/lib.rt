@@ -1,4 +1,6 @@
 // The refusals: each has a number, some carry a value, and two an index entry beside it.
+#![tactic(auto)]
+
 ghost use Rattle.std.specs.Prelude.{◌≡◌};
 ghost use Rattle.refusal.specs.Fault.{fault, fault_at, fault_of};
 

@@ -1,4 +1,6 @@
 // The ten tables, by their type's number.
+#![tactic(auto)]
+
 ghost use Rattle.std.specs.Prelude.{◌≡◌};
 ghost use Rattle.table.specs.Table.{table_number, table_of, slot_count, table_reply_of, holds_codes};
 

@@ -1,4 +1,6 @@
 // DeviceSQL strings: where a string's text stands, how long it is, and its encoding.
+#![tactic(auto)]
+
 ghost use Rattle.std.specs.Prelude.{◌≡◌, true, ◌<◌, ◌+◌, length};
 ghost use Rattle.lists.specs.Subslice.{subslice};
 ghost use Rattle.number.specs.Number.{byte_at};
