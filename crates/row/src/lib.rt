@@ -1,5 +1,7 @@
 // Rows: their layout by table, a row's check, its record and its strings.
 // A row is its own part of the page: from the row's start to where the row index begins.
+#![tactic(auto)]
+
 ghost use Rattle.std.specs.Prelude.{◌≡◌, ◌+◌, ◌*◌};
 ghost use Rattle.number.specs.Number.{le16};
 ghost use Rattle.text.specs.Text.{text_of};
@@ -12,7 +14,7 @@ use table::Table;
 use text::Text;
 
 // Where the offsets of a row's strings stand.
-#[derive(Drop)]
+#[derive(Clone, Copy)]
 pub enum Slots {
     Nothing,
     // One string, at this place of the row.

@@ -6,7 +6,7 @@ ghost use Rattle.table.specs.Table.{table_number, table_of, slot_count, table_re
 
 use refusal::Refusal;
 
-#[derive(Drop)]
+#[derive(Clone, Copy)]
 pub enum Table {
     Tracks,
     Genres,
