@@ -4,7 +4,7 @@
 --     start_good       a page with a row of some rank has rows, and its index is good
 --     row_here         the row of the rank starts there
 --     rank_most        ranks from the page's length on are all alike
-use mathlib.Core.Path.{◌≡◌, refl, sym}
+use mathlib.Core.Path.{◌≡◌, sym}
 use mathlib.Core.Bool.{true, false, false≢true}
 use Prim.Native.Nat.{ℕ, ◌<◌, ◌≤◌, min}
 use native.Mathlib.Nat.{min-eq_left, min-eq_right}
@@ -14,7 +14,7 @@ use lib.Dec.{eqb, leb, ltb, leb-suc-zero}
 use borrow.Author.Tests.{le-ltb, leb-true, leb-false, ltb-true, eqb-true}
 use Rattle.lists.specs.Alias.{Bytes}
 use Rattle.lists.proofs.Choice.{on, never, both_true}
-use Rattle.refusal.specs.Answer.{Answer, given, refused}
+use Rattle.refusal.specs.Answer.{given}
 use Rattle.table.specs.declared.Table.{Table}
 use Rattle.row.specs.Check.{check_row}
 use Rattle.page.specs.declared.Row.{Row}

@@ -1,4 +1,6 @@
 // Reading one page: its header, its row index and its rows. A page is its own part of the image.
+#![tactic(auto)]
+
 ghost use Rattle.std.specs.Prelude.{◌≡◌, ◌+◌, ◌-◌, ◌*◌, ◌/◌, ◌%◌, ◌^◌, ◌<◌, ◌≤◌, length, set, drop};
 ghost use Rattle.number.specs.Number.{le16};
 ghost use Rattle.format.specs.Size.{heap_start, group_size};

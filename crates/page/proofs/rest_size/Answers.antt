@@ -1,0 +1,10 @@
+-- `page::rest_size` meets its contract: its test is that of `rest_size`.
+use borrow.Author.Tests.{eq-eqb, ne_eqb}
+use native.Mathlib.Omega.{arith}
+use Rattle.page.proofs.rest_size.Goals as goal
+
+pub returns-then-rest-eq0 : goal.returns-then-rest-eq0
+returns-then-rest-eq0 c = rw (eq-eqb _ _ c.if-rest-eq0.true)
+
+pub returns-else-rest-eq0 : goal.returns-else-rest-eq0
+returns-else-rest-eq0 c = rw (ne_eqb _ _ c.if-rest-eq0.false) (omega arith)
