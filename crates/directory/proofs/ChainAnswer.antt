@@ -20,7 +20,7 @@ use Rattle.table.specs.Table.{table_number}
 use Rattle.directory.specs.declared.Pointer.{Pointer}
 use Rattle.directory.specs.declared.Directory.{Directory}
 use Rattle.directory.specs.declared.Chain.{Chain}
-use Rattle.directory.specs.Header.{len_page, header_holds}
+use Rattle.directory.specs.Header.{header_holds}
 use Rattle.directory.specs.Directory.{file_directory}
 use Rattle.directory.specs.Chain.{pointer_among, linked_chain, chain_in, table_chain}
 use Rattle.lists.proofs.Choice.{cond_holds}

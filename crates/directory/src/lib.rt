@@ -1,4 +1,6 @@
 // The file header and its directory of table pointers. All of it stands in block 0.
+#![tactic(auto)]
+
 ghost use Rattle.std.specs.Prelude.{◌≡◌, true, ◌≤◌, take};
 ghost use Rattle.directory.specs.Header.{type, allowed_page, allowed_tables, has_type, type_twice, tables_hold, header_holds};
 ghost use Rattle.directory.specs.Directory.{pointer_in, no_pointer, kept, file_directory, no_directory, read_header};
@@ -10,7 +12,7 @@ use refusal::Refusal;
 use table::Table;
 
 // A table's pointer, under the published names.
-#[derive(Drop)]
+#[derive(Clone, Copy)]
 pub struct Pointer {
     pub table_type: u32,
     pub empty_candidate: u32,
@@ -19,7 +21,7 @@ pub struct Pointer {
 }
 
 // The directory of a file: its page length, its number of pages, and its pointers, of which the first count are in use.
-#[derive(Drop)]
+#[derive(Clone, Copy)]
 pub struct Directory {
     pub len_page: u32,
     pub page_count: u64,

@@ -1,0 +1,18 @@
+-- `directory::keep` meets its contract. The loop's invariant: the array is `kept` of the pointers before i (proofs/PointersKept).
+use mathlib.Core.Path.{◌≡◌}
+use native.Mathlib.Omega.{arith}
+use Rattle.directory.proofs.PointersKept.{kept_none, kept_more}
+use Rattle.directory.proofs.keep.Goals as goal
+
+pub loop-i-init : goal.loop-i-init
+loop-i-init c = (omega arith, rw c.no_pointer-blank.ensures (kept_none _))
+
+pub loop-i-preserved : goal.loop-i-preserved
+loop-i-preserved c =
+    let at = c.loop-i in
+    (omega arith, rw (at.invariant.1, c.pointer_at.ensures) (kept_more _ at.i (omega arith)))
+
+pub returns : goal.returns
+returns c =
+    let e : c.loop-i.i ≡ c.args.n = omega arith in
+    rw (← e) c.loop-i.invariant.1
