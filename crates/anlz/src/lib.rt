@@ -1,4 +1,6 @@
 // An ANLZ file: its header, its sections in file order, and the first of them with a code.
+#![tactic(auto)]
+
 ghost use Rattle.std.specs.Prelude.{◌≡◌, ◌≤◌, length};
 ghost use Rattle.anlz.specs.Fault.{anlz_number};
 ghost use Rattle.anlz.specs.Header.{header_holds};
@@ -45,7 +47,7 @@ impl AnlzRefusal {
 }
 
 // A section: its code, and where it starts and ends in the file.
-#[derive(Drop)]
+#[derive(Clone, Copy)]
 pub struct Section {
     pub code: u32,
     pub place: usize,

@@ -1,4 +1,6 @@
 // What a function of the C interface gives back: a code, and values at the front of the result, as many as it takes.
+#![tactic(auto)]
+
 ghost use Rattle.c_reply.specs.Reply.{reply, Replied};
 
 // A code that a function of the C interface returns. A refusal has its own number.

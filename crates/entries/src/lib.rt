@@ -1,9 +1,11 @@
 // Entries of one width in a section, from byte `18` on.
+#![tactic(auto)]
+
 ghost use Rattle.std.specs.Prelude.{◌≡◌};
 ghost use Rattle.entries.specs.Entries.{entry, fills};
 
 // So many entries of one width.
-#[derive(Drop)]
+#[derive(Clone, Copy)]
 pub struct Entries {
     pub width: u32,
     pub count: u32,

@@ -82,13 +82,15 @@ in_use_kept {len} {m} {n} a block piece = rw (verdict_agree a block piece) (by (
 each_in_use : {len : ℕ} {m n : Memory} → SameInUse len m n → (all : List Delivery) → SameInUse len (after_each len m all) (after_each len n all)
 unfolding after_each
 each_in_use a [] = a
-each_in_use a (d ∷ rest) = each_in_use (in_use_kept a d.block d.piece) rest
+each_in_use {len} {m} {n} a (d ∷ rest) =
+    each_in_use {m = (delivery len m d.block d.piece).memory} {n = (delivery len n d.block d.piece).memory} (in_use_kept a d.block d.piece) rest
 
 each_unread : {len : ℕ} {m n : Memory} → SameInUse len m n → (all : List Delivery) → results_of_each len m all ≡ results_of_each len n all
 unfolding results_of_each
 each_unread a [] = refl
-each_unread a (d ∷ rest) =
-    ap₂ (λ (x : ℕ) (xs : List ℕ). x ∷ xs) (ap result_of (unread a d.block d.piece)) (each_unread (in_use_kept a d.block d.piece) rest)
+each_unread {len} {m} {n} a (d ∷ rest) =
+    ap₂ (λ (x : ℕ) (xs : List ℕ). x ∷ xs) (ap result_of (unread a d.block d.piece))
+    (each_unread {m = (delivery len m d.block d.piece).memory} {n = (delivery len n d.block d.piece).memory} (in_use_kept a d.block d.piece) rest)
 
 each_unwritten : (len : ℕ) (m : Memory) (all : List Delivery) → SamePast len (after_each len m all) m
 unfolding after_each

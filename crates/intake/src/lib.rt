@@ -1,4 +1,6 @@
 // Taking in an export by blocks: opening, delivery, packets of blocks, and which blocks are held (rules 1.5, 1.6, 1.10 to 1.16 and 1.19 to 1.24).
+#![tactic(auto)]
+
 ghost use Rattle.std.specs.Prelude.{◌≡◌, ◌+◌, ◌*◌, ◌≤◌, ◌++◌, length, drop, replicate, eqb};
 ghost use Rattle.lists.specs.Write.{written};
 ghost use Rattle.format.specs.Size.{block_size};
@@ -18,7 +20,7 @@ use format::Block;
 use refusal::Refusal;
 
 // An opened intake: what every later call takes, with the same image and map.
-#[derive(Drop)]
+#[derive(Clone, Copy)]
 pub struct Intake {
     pub len: u64,
 }

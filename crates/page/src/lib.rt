@@ -28,7 +28,7 @@ pub enum PageRead {
 }
 
 // A row: its page's number, its entry in the page's row index, and where it starts in the page.
-#[derive(Drop)]
+#[derive(Clone, Copy)]
 pub struct Row {
     pub page: u32,
     pub entry: u16,

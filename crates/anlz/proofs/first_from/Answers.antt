@@ -1,0 +1,29 @@
+-- `anlz::first_from` meets its contract: by the loop's invariant `SectionsLeft` (proofs/SectionsLoop), with what is found so far (proofs/FirstLoop).
+use mathlib.Core.Path.{sym, ◌∙◌}
+use native.Mathlib.Omega.{arith}
+use Rattle.anlz.specs.Private.{first_from}
+use Rattle.anlz.proofs.NextSection.{found_inside}
+use Rattle.anlz.proofs.SectionsLoop.{left_begin, left_past, left_end, left_broken, left_found}
+use Rattle.anlz.proofs.FirstLoop.{found_among, found_all, found_more}
+use Rattle.anlz.proofs.first_from.Goals as goal
+
+pub loop-at-init : goal.loop-at-init
+unfolding first_from found_among
+loop-at-init c = left_begin _ _ _ c.requires
+
+pub returns-in-End : goal.returns-in-End
+returns-in-End c = sym (found_all _ _) ∙ left_end c.loop-at.invariant (rw c.in-End.is at c.step.ensures)
+
+pub loop-at-smaller : goal.loop-at-smaller
+loop-at-smaller c =
+    let inside = found_inside _ _ (rw c.in-Found.is at c.step.ensures) in
+    omega (arith, inside.more, inside.ends)
+
+pub loop-at-preserved : goal.loop-at-preserved
+loop-at-preserved c = left_found c.loop-at.invariant _ (rw c.in-Found.is at c.step.ensures) (found_more _ _ _ c.keep-first.ensures)
+
+pub returns-in-Refused : goal.returns-in-Refused
+returns-in-Refused c = left_broken c.loop-at.invariant (rw c.in-Refused.is at c.step.ensures)
+
+pub returns : goal.returns
+returns c = sym (found_all _ _) ∙ left_past c.loop-at.invariant c.loop-at-test.false

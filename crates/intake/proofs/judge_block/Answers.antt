@@ -1,0 +1,35 @@
+-- `intake::judge_block` meets its contract: each verdict is that of its case (proofs/Verdict).
+use mathlib.Core.Path.{sym, ◌∙◌}
+use Prim.Native.Nat.{◌<◌}
+use native.Mathlib.Omega.{arith}
+use Rattle.bitmap.specs.Words.{block_count}
+use Rattle.intake.specs.Memory.{memory}
+use Rattle.intake.proofs.Verdict.{block_inside, number_refused, size_refused, bytes_refused, is_same, is_new}
+use Rattle.intake.proofs.BlockBytes.{part_equal}
+use Rattle.intake.proofs.judge_block.Goals as goal
+
+pub returns-then-block_count-block : goal.returns-then-block_count-block
+returns-then-block_count-block c = sym (number_refused _ _ _ _ c.requires (omega arith))
+
+pub returns-then-piece-ne-SIZE : goal.returns-then-piece-ne-SIZE
+returns-then-piece-ne-SIZE c = sym (size_refused _ _ _ _ c.requires (omega arith) c.if-piece-ne-SIZE.true)
+
+pub returns-then-not-has_bit : goal.returns-then-not-has_bit
+returns-then-not-has_bit c = sym (is_new _ _ _ _ c.requires (omega arith) c.if-piece-ne-SIZE.false (sym c.has_bit.ensures ∙ c.if-not-has_bit.true))
+
+pub slice_bounds-same_bytes-end : goal.slice_bounds-same_bytes-end
+slice_bounds-same_bytes-end c =
+    let inside : c.args.block < block_count c.args.len = omega arith in
+    omega (arith, block_inside c.args.len (memory c.args.image.now c.args.map.now) c.args.block c.requires inside)
+
+pub returns-then-same_bytes : goal.returns-then-same_bytes
+returns-then-same_bytes c =
+    let held = sym c.has_bit.ensures ∙ c.if-not-has_bit.false in
+    let e = part_equal _ c.args.block _ c.same_bytes.ensures c.if-same_bytes.true in
+    sym (is_same _ _ _ _ c.requires (omega arith) c.if-piece-ne-SIZE.false held e)
+
+pub returns-else-same_bytes : goal.returns-else-same_bytes
+returns-else-same_bytes c =
+    let held = sym c.has_bit.ensures ∙ c.if-not-has_bit.false in
+    let e = part_equal _ c.args.block _ c.same_bytes.ensures c.if-same_bytes.false in
+    sym (bytes_refused _ _ _ _ c.requires (omega arith) c.if-piece-ne-SIZE.false held e)
