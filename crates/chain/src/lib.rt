@@ -1,4 +1,6 @@
 // Along a table's chain of pages: the walk, the places of its rows, and one row by its number in the table.
+#![tactic(auto)]
+
 ghost use Rattle.std.specs.Prelude.{◌≡◌, ◌||◌, ◌+◌, min, length, eqb, leb};
 ghost use Rattle.lists.specs.Nth.{nth};
 ghost use Rattle.lists.specs.Write.{written};

@@ -1,0 +1,32 @@
+-- `chain::fill_along` meets its contract, by the loop's invariant `Filling` (proofs/FillLoop).
+use mathlib.Core.Path.{refl}
+use borrow.Author.Rules.{rules}
+use Rattle.chain.proofs.FillLoop.{begin, end, short, next}
+use Rattle.chain.proofs.PagePart.{part_next}
+use Rattle.chain.proofs.fill_along.Goals as goal
+
+pub loop-left-init : goal.loop-left-init
+loop-left-init c = begin _ _ _ _ _
+
+pub shape_of-list-then-list-at : goal.shape_of-list-then-list-at
+shape_of-list-then-list-at c =
+    let inv = c.loop-left.invariant in
+    search (rules, inv.same)
+
+pub returns-then-list-at : goal.returns-then-list-at
+returns-then-list-at c =
+    let inv = c.loop-left.invariant in
+    let wrote = c.fill_page-found.ensures in
+    short inv _ wrote.1 c.loop-left-test.true wrote.0 refl c.if-list-at.true
+
+pub loop-left-preserved : goal.loop-left-preserved
+loop-left-preserved c =
+    let inv = c.loop-left.invariant in
+    let wrote = c.fill_page-found.ensures in
+    next inv _ wrote.1 c.loop-left-test.true wrote.0 refl c.if-list-at.false (part_next _ _ _ c.part.ensures c.next-page.ensures)
+
+pub shape_of-list : goal.shape_of-list
+shape_of-list c = c.loop-left.invariant.same
+
+pub returns : goal.returns
+returns c = end c.loop-left.invariant c.loop-left-test.false
