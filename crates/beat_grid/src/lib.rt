@@ -1,4 +1,6 @@
 // The beat grid of an ANLZ file: the number of beats, and one beat.
+#![tactic(auto)]
+
 ghost use Rattle.std.specs.Prelude.{◌≡◌};
 ghost use Rattle.refusal.specs.Answer.{and_then};
 ghost use Rattle.anlz.specs.Element.{element_at};

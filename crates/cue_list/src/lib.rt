@@ -1,4 +1,6 @@
 // The cues of an ANLZ file: one cue, counted through all its cue lists.
+#![tactic(auto)]
+
 ghost use Rattle.std.specs.Prelude.{◌≡◌, ◌≤◌, length};
 ghost use Rattle.entries.specs.Entries.{entries};
 ghost use Rattle.entries.specs.Every.{every_entry};

@@ -1,0 +1,29 @@
+-- `cue_list::cue_from` meets its contract: by the loop's invariant `SectionsLeft` (anlz/SectionsLoop), with the answer for the search so far (proofs/CueSearch).
+use mathlib.Core.Path.{sym, ◌∙◌}
+use native.Mathlib.Omega.{arith}
+use Rattle.anlz.proofs.NextSection.{found_inside}
+use Rattle.anlz.proofs.SectionsLoop.{left_begin, left_past, left_end, left_broken, left_found}
+use Rattle.cue_list.specs.Private.{cue_from}
+use Rattle.cue_list.proofs.CueSearch.{answer_among, among_end, among_more}
+use Rattle.cue_list.proofs.cue_from.Goals as goal
+
+pub loop-at-init : goal.loop-at-init
+unfolding cue_from answer_among
+loop-at-init c = left_begin _ _ _ c.requires
+
+pub returns-in-End : goal.returns-in-End
+returns-in-End c = c.end.ensures ∙ sym (among_end _ _) ∙ left_end c.loop-at.invariant (rw c.in-End.is at c.step.ensures)
+
+pub loop-at-smaller : goal.loop-at-smaller
+loop-at-smaller c =
+    let inside = found_inside _ _ (rw c.in-Found.is at c.step.ensures) in
+    omega (arith, inside.more, inside.ends)
+
+pub loop-at-preserved : goal.loop-at-preserved
+loop-at-preserved c = left_found c.loop-at.invariant _ (rw c.in-Found.is at c.step.ensures) (among_more _ _ _ c.search_section-search.ensures)
+
+pub returns-in-Refused : goal.returns-in-Refused
+returns-in-Refused c = left_broken c.loop-at.invariant (rw c.in-Refused.is at c.step.ensures)
+
+pub returns : goal.returns
+returns c = c.end-2.ensures ∙ sym (among_end _ _) ∙ left_past c.loop-at.invariant c.loop-at-test.false
