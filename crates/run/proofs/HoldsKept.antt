@@ -187,4 +187,4 @@ pub holds_each : {len : ℕ} {before m : Memory} {r : Received} (deliveries : Li
     → Holds len before (receive_each len deliveries r) (after_each len m deliveries)
 unfolding receive_each after_each
 holds_each [] a h = h
-holds_each (d ∷ rest) a h = holds_each rest a (holds_deliver d a h)
+holds_each {len = len} {m = m} (d ∷ rest) a h = holds_each {m = (delivery len m d.block d.piece).memory} rest a (holds_deliver d a h)

@@ -28,7 +28,7 @@ module _ (len : ℕ) (before : Memory) (passed : Accepted len before.image befor
   holds_calls : {m : Memory} {r : Received} (calls : List Call) → Holds len before r m → Holds len before (receive_calls len calls r) (after_calls len calls m)
   unfolding after_calls receive_calls
   holds_calls [] h = h
-  holds_calls (call ∷ calls) h = holds_calls calls (holds_call call h)
+  holds_calls {m = m} (call ∷ calls) h = holds_calls {m = after_call len call m} calls (holds_call call h)
 
   pub run_holds : (calls : List Call) → Holds len before (run_received len calls) (run_memory len before calls)
   run_holds calls = holds_calls calls (holds_start len before passed)

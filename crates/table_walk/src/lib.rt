@@ -1,4 +1,6 @@
 // With what every question begins: the table that is asked for, block 0, and the walk for a table of a file.
+#![tactic(auto)]
+
 ghost use Rattle.std.specs.Prelude.{◌≡◌};
 ghost use Rattle.table.specs.Table.{table_reply_of};
 ghost use Rattle.intake.specs.Memory.{memory, block_at};

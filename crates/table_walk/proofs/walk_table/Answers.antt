@@ -1,0 +1,25 @@
+-- `table_walk::walk_table` meets its contract: block 0's bit and the header choose the case (proofs/WalkStart).
+use mathlib.Core.Path.{sym, ◌∙◌}
+use Rattle.intake.specs.Memory.{memory}
+use Rattle.table_walk.proofs.WalkStart.{start_missing, start_broken, start_ready}
+use Rattle.table_walk.proofs.walk_table.Goals as goal
+
+pub returns-then-not-has_bit : goal.returns-then-not-has_bit
+returns-then-not-has_bit c =
+    let a = c.args in
+    let missing = sym c.has_bit.ensures ∙ c.if-not-has_bit.true in
+    start_missing a.len (memory a.image.now a.map.now) a.table missing c.none-directory.ensures
+
+pub returns-then-header : goal.returns-then-header
+returns-then-header c =
+    let a = c.args in
+    let held = sym c.has_bit.ensures ∙ c.if-not-has_bit.false in
+    let header = rw c.first_block.ensures at c.read-header.ensures in
+    start_ready a.len (memory a.image.now a.map.now) a.table held header c.if-header.true c.walk-walked.ensures
+
+pub returns-else-header : goal.returns-else-header
+returns-else-header c =
+    let a = c.args in
+    let held = sym c.has_bit.ensures ∙ c.if-not-has_bit.false in
+    let header = rw c.first_block.ensures at c.read-header.ensures in
+    start_broken a.len (memory a.image.now a.map.now) a.table held header c.if-header.false
