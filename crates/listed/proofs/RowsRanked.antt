@@ -2,7 +2,7 @@
 --     row_there                the rows of one page
 --     RowsThere, rows_there    the rows that a walk finds
 -- Rests on proofs/RunsInRows, on the pages that a walk counts (chain: PagesPassed), and on what reading a page says (page: PageAnswer).
-use mathlib.Core.Path.{◌≡◌, refl, sym, ap, ◌∙◌}
+use mathlib.Core.Path.{◌≡◌, refl, sym, ap}
 use mathlib.Core.Bool.{true}
 use mathlib.Core.List.{[]}
 use Prim.Native.Nat.{ℕ, ◌/◌, ◌%◌, ◌<◌}

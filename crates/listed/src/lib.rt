@@ -1,4 +1,6 @@
 // The row that an element of a list of places names, read from one page.
+#![tactic(auto)]
+
 ghost use Rattle.std.specs.Prelude.{◌≡◌, ◌%◌, ◌/◌, ◌<◌, ◌≤◌, min, length, eqb};
 ghost use Rattle.refusal.specs.Answer.{given, and_then};
 ghost use Rattle.page.specs.OneRow.{read_row};
