@@ -17,7 +17,7 @@ use Rattle.directory.specs.declared.Header.{Header}
 use Rattle.directory.specs.Header.{header_holds}
 use Rattle.directory.specs.Directory.{file_directory, read_header}
 use Rattle.directory.specs.Chain.{chain_in, table_chain}
-use Rattle.chain.specs.Found.{Found, found, waiting}
+use Rattle.chain.specs.Found.{found, waiting}
 use Rattle.table_walk.specs.Walk.{page_size}
 use Rattle.export.specs.Layout.{layout_in, bounds_in, bounds_of, once_held}
 use Rattle.lists.proofs.Choice.{on}

@@ -1,5 +1,7 @@
 // The three questions: all rows of a table, record k of a table, and a string of record k; reading from the list of places
 // that the first of them wrote; and what block 0 tells ahead of them.
+#![tactic(auto)]
+
 ghost use Rattle.std.specs.Prelude.{◌≡◌};
 ghost use Rattle.lists.specs.Nth.{nth};
 ghost use Rattle.intake.specs.Memory.{memory};
