@@ -1,4 +1,6 @@
 // The waveforms of an ANLZ file: one entry, by its place and its width.
+#![tactic(auto)]
+
 ghost use Rattle.std.specs.Prelude.{◌≡◌};
 ghost use Rattle.refusal.specs.Answer.{refused};
 ghost use Rattle.anlz.specs.Fault.{anlz_fault};
@@ -18,7 +20,7 @@ const PWV4: u32 = 0x5057_5634;
 const PWV5: u32 = 0x5057_5635;
 
 // The sorts of waveform that can be asked for.
-#[derive(Drop)]
+#[derive(Clone, Copy)]
 pub enum Wave {
     Detail,
     ColorPreview,
