@@ -3,7 +3,6 @@
 use mathlib.Core.Path.{◌≡◌, refl, sym, ◌∙◌}
 use mathlib.Core.Bool.{true}
 use Prim.Native.Nat.{ℕ}
-use lib.ListN.{length}
 use Rattle.lists.specs.Alias.{Bytes, Words}
 use Rattle.lists.proofs.Choice.{on}
 use Rattle.number.specs.Agree.{Agree}

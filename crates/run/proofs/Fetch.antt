@@ -3,7 +3,7 @@
 --     fetched_kept       with more blocks received, held blocks and what block 0 told stay
 -- Rests on what a run holds (specs/Holds), and on the intake's laws of `check_call`.
 use mathlib.Core.Path.{◌≡◌, refl, sym, ap, ◌∙◌}
-use mathlib.Core.Bool.{Bool, true, not, ◌&&◌}
+use mathlib.Core.Bool.{true, not}
 use mathlib.Core.Option.{Option, none, some}
 use Prim.Native.Nat.{ℕ, ◌-◌, ◌<◌}
 use native.Mathlib.Omega.{arith}
@@ -18,10 +18,9 @@ use Rattle.table.specs.Table.{table_of}
 use Rattle.bitmap.specs.Words.{block_count}
 use Rattle.bitmap.specs.Bit.{bit}
 use Rattle.intake.specs.Private.{Sound}
-use Rattle.intake.specs.Memory.{Memory, block_at}
+use Rattle.intake.specs.Memory.{Memory}
 use Rattle.intake.specs.Missing.{held, next_missing}
 use Rattle.intake.proofs.RulesPassed.{call_passes}
-use Rattle.table_walk.specs.Asked.{asked_table}
 use Rattle.table_walk.proofs.AskedTable.{sound_asked}
 use Rattle.table_walk.proofs.SameBlocks.{some_block}
 use Rattle.export.specs.Layout.{layout_in, bounds_in, once_held, ask_layout, ask_bounds}
