@@ -1,5 +1,7 @@
 // The C interface for fetching an export: which blocks are held, which is missing, and what block 0 tells of the pages to fetch. Each
 // function makes one call of the library and replies to its answer (crate c_replies).
+#![tactic(auto)]
+
 ghost use Rattle.std.specs.Prelude.{◌≡◌, cond};
 ghost use Rattle.intake.specs.Memory.{memory};
 ghost use Rattle.intake.specs.Missing.{held, next_missing};

@@ -1,5 +1,7 @@
 // The C interface of exports, over numbers and slices: opening, delivery, packets, the three questions, and reading from a list. Each
 // function makes one call of the library and replies to its answer (crate c_replies).
+#![tactic(auto)]
+
 ghost use Rattle.std.specs.Prelude.{◌≡◌};
 ghost use Rattle.intake.specs.Open.{opening};
 ghost use Rattle.intake.specs.Memory.{memory};
@@ -36,7 +38,7 @@ pub extern "C" fn sarvoltig_deliver(
 ) -> u32
     ensures replied { Replied (reply_to deliver_reply (delivery len (memory image.old map.old) block piece.now).answer) result
         res.old res.new }
-    ensures map_after { memory image.new map.new ≡
+    ensures memory_after { memory image.new map.new ≡
         (delivery len (memory image.old map.old) block piece.now).memory }
 {
     c_replies::reply_delivered(
@@ -58,7 +60,7 @@ pub extern "C" fn sarvoltig_packet(
 ) -> u32
     ensures replied { Replied (reply_to packet_reply (packet len (memory image.old map.old)
         blocks.now pieces.now codes.old).answer) result res.old res.new }
-    ensures map_after { memory image.new map.new ≡ (packet len (memory image.old map.old)
+    ensures memory_after { memory image.new map.new ≡ (packet len (memory image.old map.old)
         blocks.now pieces.now codes.old).memory }
     ensures codes_after { codes.new ≡ (packet len (memory image.old map.old)
         blocks.now pieces.now codes.old).results }

@@ -1,4 +1,6 @@
 // The replies of the C interface about an export: for each answer of the library its code and its values (crate c_reply).
+#![tactic(auto)]
+
 ghost use Rattle.std.specs.Prelude.{◌≡◌, [], ◌∷◌};
 ghost use Rattle.refusal.specs.Fault.{fault_of};
 ghost use Rattle.row.specs.Record.{track_of, record_of};
