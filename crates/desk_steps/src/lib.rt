@@ -1,4 +1,6 @@
 // The desk program's commands: what the bytes of a command say, and what each command does and answers.
+#![tactic(auto)]
+
 ghost use Rattle.std.specs.Prelude.{◌≡◌, drop};
 ghost use Rattle.lists.specs.Alias.{Places};
 ghost use Rattle.desk_steps.specs.Command.{open_file, deliver_block, ask_table, number_size, body_size, decoded, command_of, decoded_of};
