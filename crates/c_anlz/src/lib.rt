@@ -1,4 +1,6 @@
 // The replies of the C interface about an ANLZ file: for each answer its code and its values (crate c_reply).
+#![tactic(auto)]
+
 ghost use Rattle.std.specs.Prelude.{◌≡◌, [], ◌∷◌};
 ghost use Rattle.anlz.specs.Fault.{anlz_number};
 ghost use Rattle.beat_grid.specs.Questions.{beats_reply_of, beat_reply_of};

@@ -1,5 +1,7 @@
 // The C interface of ANLZ files, over numbers and slices: beats, cues and waveforms. Each function makes one call of the library and
 // replies to its answer (crate c_anlz).
+#![tactic(auto)]
+
 ghost use Rattle.beat_grid.specs.Questions.{ask_beats, ask_beat};
 ghost use Rattle.cue_list.specs.Questions.{ask_cue};
 ghost use Rattle.waveform.specs.Questions.{ask_wave};
