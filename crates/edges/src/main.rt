@@ -1,29 +1,29 @@
 // Runs cases of rules 9.1 to 9.4, 9.17 and 9.19 and writes a line for each: C1 to C3 and a file of 32,768 bytes, a page of no
 // entries, C5 and C6, row counts, entries of faults, wrong halves of a header, C9 to C12, and the other two strings. C4 is a
 // theorem alone.
+#![tactic(auto)]
+
 use intake::Opened;
-use libc::STDOUT_FILENO;
 use page::PageRead;
 use refusal::Refusal;
 use row::Check;
+use std::io;
 use table::Table;
 use text::Text;
 
-fn say(word: &[u8], n: u64) {
-    io::write_all(STDOUT_FILENO, word);
-    io::print_decimal(STDOUT_FILENO, n);
-    io::write_all(STDOUT_FILENO, b"\n");
+fn say(rt: &impl Print, word: &str, n: u64) -> io::Result<()> {
+    println!(rt; "{word}{n}")
 }
 
-fn say_refused(refusal: Refusal) {
+fn say_refused(rt: &impl Print, refusal: Refusal) -> io::Result<()> {
     let fault = refusal.fault();
-    say(b"refused ", fault.number as u64);
+    say(rt, "refused ", fault.number as u64)
 }
 
-fn say_open(len: u64, image: &[u8], map: &mut [u64]) {
+fn say_open(rt: &impl Print, len: u64, image: &[u8], map: &mut [u64]) -> io::Result<()> {
     match intake::open(len, image, map) {
-        Opened::Open { intake: _, blocks } => say(b"open ", blocks),
-        Opened::Refused(refusal) => say_refused(refusal),
+        Opened::Open { intake: _, blocks } => say(rt, "open ", blocks),
+        Opened::Refused(refusal) => say_refused(rt, refusal),
     }
 }
 
@@ -47,16 +47,16 @@ fn set_header(page: &mut [u8], counts: u32) {
 }
 
 // What reading the page answers, as a page of this number and table.
-fn say_read(page: &[u8], number: u32, table: Table) {
+fn say_read(rt: &impl Print, page: &[u8], number: u32, table: Table) -> io::Result<()> {
     match page::read(page, number, table) {
-        PageRead::Counted(rows) => say(b"rows ", rows as u64),
-        PageRead::Refused(refusal) => say_refused(refusal),
+        PageRead::Counted(rows) => say(rt, "rows ", rows as u64),
+        PageRead::Refused(refusal) => say_refused(rt, refusal),
     }
 }
 
-fn say_page(page: &mut [u8], counts: u32) {
+fn say_page(rt: &impl Print, page: &mut [u8], counts: u32) -> io::Result<()> {
     set_header(page, counts);
-    say_read(page, 1, Table::Genres);
+    say_read(rt, page, 1, Table::Genres)
 }
 
 fn put_flags(page: &mut [u8], low: usize, high: usize) {
@@ -71,18 +71,18 @@ fn set_rows(page: &mut [u8], name: u8) {
     put_flags(page, 472, 473);
 }
 
-fn say_part(row: &[u8], place: usize, len: usize) {
-    io::write_all(STDOUT_FILENO, b"text ");
+fn say_part(rt: &impl Print, row: &[u8], place: usize, len: usize) -> io::Result<()> {
+    rt.print("text ")?;
     if place <= row.len() {
         if len <= row.len() - place {
-            io::write_all(STDOUT_FILENO, &row[place..place + len]);
+            rt.write_all(&row[place..place + len])?;
         }
     }
-    io::write_all(STDOUT_FILENO, b"\n");
+    rt.println("")
 }
 
 // A genre row: four bytes of id, then the string.
-fn say_name(row: &[u8]) {
+fn say_name(rt: &impl Print, row: &[u8]) -> io::Result<()> {
     match row::check_row(Table::Genres, row) {
         Check::Good => {
             let found = row::slot_text(Table::Genres, row, 0);
@@ -91,44 +91,44 @@ fn say_name(row: &[u8]) {
                     place,
                     len,
                     encoding: _,
-                } => say_part(row, place, len),
-                Text::Malformed => say_refused(Refusal::TextFault { page: 1, entry: 0 }),
+                } => say_part(rt, row, place, len),
+                Text::Malformed => say_refused(rt, Refusal::TextFault { page: 1, entry: 0 }),
             }
         }
-        Check::RowFault => say_refused(Refusal::RowShort { page: 1, entry: 0 }),
-        Check::TextFault => say_refused(Refusal::TextFault { page: 1, entry: 0 }),
+        Check::RowFault => say_refused(rt, Refusal::RowShort { page: 1, entry: 0 }),
+        Check::TextFault => say_refused(rt, Refusal::TextFault { page: 1, entry: 0 }),
     }
 }
 
-fn openings(image: &[u8], map: &mut [u64]) {
-    say_open(0, image, map);
-    say_open(512, image, map);
-    say_open(268_435_968, image, map);
-    say_open(32_768, image, map);
+fn openings(rt: &impl Print, image: &[u8], map: &mut [u64]) -> io::Result<()> {
+    say_open(rt, 0, image, map)?;
+    say_open(rt, 512, image, map)?;
+    say_open(rt, 268_435_968, image, map)?;
+    say_open(rt, 32_768, image, map)
 }
 
-fn pages(page: &mut [u8]) {
-    say_page(page, 0);
-    say_page(page, 208);
-    say_page(page, 209);
-    say_page(page, 0x1fff);
+fn pages(rt: &impl Print, page: &mut [u8]) -> io::Result<()> {
+    say_page(rt, page, 0)?;
+    say_page(rt, page, 208)?;
+    say_page(rt, page, 209)?;
+    say_page(rt, page, 0x1fff)
 }
 
 // 16 and 17 entries, all present, counted right; then 17 counted as one less, one more and all ones of both groups.
-fn counted_pages(page: &mut [u8]) {
+fn counted_pages(rt: &impl Print, page: &mut [u8]) -> io::Result<()> {
     set_rows(page, 0x03);
-    say_page(page, 0x2_0010);
-    say_page(page, 0x2_2011);
-    say_page(page, 0x2_0011);
-    say_page(page, 0x2_4011);
-    say_page(page, 0x4_0011);
+    say_page(rt, page, 0x2_0010)?;
+    say_page(rt, page, 0x2_2011)?;
+    say_page(rt, page, 0x2_0011)?;
+    say_page(rt, page, 0x2_4011)?;
+    say_page(rt, page, 0x4_0011)
 }
 
 // 17 entries where the rows' names are malformed, counted right and as one less.
-fn bad_names(page: &mut [u8]) {
+fn bad_names(rt: &impl Print, page: &mut [u8]) -> io::Result<()> {
     set_rows(page, 0x01);
-    say_page(page, 0x2_2011);
-    say_page(page, 0x2_0011);
+    say_page(rt, page, 0x2_2011)?;
+    say_page(rt, page, 0x2_0011)
 }
 
 // The entry that the refusal of the page carries, 0 where it is read.
@@ -142,51 +142,51 @@ fn fault_entry(page: &[u8]) -> u64 {
     }
 }
 
-fn say_entry(page: &mut [u8], counts: u32) {
-    say_page(page, counts);
-    say(b"entry ", fault_entry(page));
+fn say_entry(rt: &impl Print, page: &mut [u8], counts: u32) -> io::Result<()> {
+    say_page(rt, page, counts)?;
+    say(rt, "entry ", fault_entry(page))
 }
 
 // Malformed names where entry 1 of two is present, and entry 16 of 17.
-fn late_entries(page: &mut [u8]) {
+fn late_entries(rt: &impl Print, page: &mut [u8]) -> io::Result<()> {
     put(page, 508, 0x02);
     put(page, 509, 0);
-    say_entry(page, 0x2002);
+    say_entry(rt, page, 0x2002)?;
     put(page, 508, 0);
     put(page, 472, 0x01);
     put(page, 473, 0);
-    say_entry(page, 0x2011);
+    say_entry(rt, page, 0x2011)
 }
 
 // Page 1 of a table of genres, read as another page, for another table, and as both.
-fn headers(page: &[u8]) {
-    say_read(page, 2, Table::Genres);
-    say_read(page, 1, Table::Artists);
-    say_read(page, 2, Table::Artists);
+fn headers(rt: &impl Print, page: &[u8]) -> io::Result<()> {
+    say_read(rt, page, 2, Table::Genres)?;
+    say_read(rt, page, 1, Table::Artists)?;
+    say_read(rt, page, 2, Table::Artists)
 }
 
-fn names() {
-    say_name(&[7, 0, 0, 0, 0x03]);
-    say_name(&[7, 0, 0, 0, 0x01]);
-    say_name(&[7, 0, 0, 0, 0x09, 0x41, 0x42, 0x43]);
-    say_name(&[7, 0, 0, 0, 0x90, 0x05, 0x00, 0x00, 0x41]);
+fn names(rt: &impl Print) -> io::Result<()> {
+    say_name(rt, &[7, 0, 0, 0, 0x03])?;
+    say_name(rt, &[7, 0, 0, 0, 0x01])?;
+    say_name(rt, &[7, 0, 0, 0, 0x09, 0x41, 0x42, 0x43])?;
+    say_name(rt, &[7, 0, 0, 0, 0x90, 0x05, 0x00, 0x00, 0x41])
 }
 
-fn more_names() {
-    say_name(&[7, 0, 0, 0, 0x40, 0x06, 0x00, 0x00, 0x41, 0x42]);
-    say_name(&[7, 0, 0, 0, 0x40, 0x03, 0x00, 0x00]);
+fn more_names(rt: &impl Print) -> io::Result<()> {
+    say_name(rt, &[7, 0, 0, 0, 0x40, 0x06, 0x00, 0x00, 0x41, 0x42])?;
+    say_name(rt, &[7, 0, 0, 0, 0x40, 0x03, 0x00, 0x00])
 }
 
-fn main() {
+fn main(rt: HostRuntime) -> io::Result<()> {
     let image = [0u8; 32768];
     let mut map = [0u64; 1];
-    openings(&image, &mut map);
+    openings(&rt, &image, &mut map)?;
     let mut page = [0u8; 512];
-    pages(&mut page);
-    counted_pages(&mut page);
-    bad_names(&mut page);
-    late_entries(&mut page);
-    headers(&page);
-    names();
-    more_names();
+    pages(&rt, &mut page)?;
+    counted_pages(&rt, &mut page)?;
+    bad_names(&rt, &mut page)?;
+    late_entries(&rt, &mut page)?;
+    headers(&rt, &page)?;
+    names(&rt)?;
+    more_names(&rt)
 }

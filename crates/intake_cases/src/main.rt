@@ -1,48 +1,60 @@
 // Runs the intake near its edges: refusals 1 to 7, New and Same, and writes a line for each call.
+#![tactic(auto)]
+
 use intake::{Delivered, Intake, Opened};
-use libc::STDOUT_FILENO;
 use refusal::Refusal;
+use std::io;
 
-fn say(word: &[u8], n: u64) {
-    io::write_all(STDOUT_FILENO, word);
-    io::print_decimal(STDOUT_FILENO, n);
-    io::write_all(STDOUT_FILENO, b"\n");
+fn say(rt: &impl Print, word: &str, n: u64) -> io::Result<()> {
+    println!(rt; "{word}{n}")
 }
 
-fn say_refused(refusal: Refusal) {
+fn say_refused(rt: &impl Print, refusal: Refusal) -> io::Result<()> {
     let fault = refusal.fault();
-    say(b"refused ", fault.number as u64);
+    say(rt, "refused ", fault.number as u64)
 }
 
-fn open(len: u64, image: &[u8], map: &mut [u64]) {
+fn open(rt: &impl Print, len: u64, image: &[u8], map: &mut [u64]) -> io::Result<()> {
     match intake::open(len, image, map) {
-        Opened::Open { intake: _, blocks } => say(b"open ", blocks),
-        Opened::Refused(refusal) => say_refused(refusal),
+        Opened::Open { intake: _, blocks } => say(rt, "open ", blocks),
+        Opened::Refused(refusal) => say_refused(rt, refusal),
     }
 }
 
-fn deliver(len: u64, image: &mut [u8], map: &mut [u64], block: u64, piece: &[u8]) {
+fn deliver(
+    rt: &impl Print,
+    len: u64,
+    image: &mut [u8],
+    map: &mut [u64],
+    block: u64,
+    piece: &[u8],
+) -> io::Result<()> {
     match intake::deliver(Intake::new(len), image, map, block, piece) {
-        Delivered::New(count) => say(b"new ", count),
-        Delivered::Same(count) => say(b"same ", count),
-        Delivered::Refused(refusal) => say_refused(refusal),
+        Delivered::New(count) => say(rt, "new ", count),
+        Delivered::Same(count) => say(rt, "same ", count),
+        Delivered::Refused(refusal) => say_refused(rt, refusal),
     }
 }
 
-fn openings(image: &[u8], map: &mut [u64], lens: &[u64]) {
-    let mut i = 0;
-    while i < lens.len() {
-        open(lens[i], image, map);
-        i += 1;
+fn openings(rt: &impl Print, image: &[u8], map: &mut [u64], lens: &[u64]) -> io::Result<()> {
+    for len in lens {
+        open(rt, *len, image, map)?;
     }
+    Ok(())
 }
 
-fn deliveries(len: u64, image: &mut [u8], map: &mut [u64], piece: &[u8], blocks: &[u64]) {
-    let mut i = 0;
-    while i < blocks.len() {
-        deliver(len, image, map, blocks[i], piece);
-        i += 1;
+fn deliveries(
+    rt: &impl Print,
+    len: u64,
+    image: &mut [u8],
+    map: &mut [u64],
+    piece: &[u8],
+    blocks: &[u64],
+) -> io::Result<()> {
+    for block in blocks {
+        deliver(rt, len, image, map, *block, piece)?;
     }
+    Ok(())
 }
 
 fn put(map: &mut [u64], at: usize, word: u64) {
@@ -51,57 +63,73 @@ fn put(map: &mut [u64], at: usize, word: u64) {
     }
 }
 
-fn say_word(map: &[u64], at: usize) {
-    if at < map.len() {
-        say(b"word ", map[at]);
+fn say_word(rt: &impl Print, map: &[u64], at: usize) -> io::Result<()> {
+    match map.get(at) {
+        Some(word) => say(rt, "word ", *word),
+        None => Ok(()),
     }
 }
 
 // One block: refusals 1 and 2 of an opening, New, Same, and refusals 5 to 7.
-fn one_block(image: &mut [u8], map: &mut [u64], piece: &[u8], other: &[u8], short: &[u8]) {
-    openings(image, map, &[0, 268_435_968, 268_435_456, 512]);
+fn one_block(
+    rt: &impl Print,
+    image: &mut [u8],
+    map: &mut [u64],
+    piece: &[u8],
+    other: &[u8],
+    short: &[u8],
+) -> io::Result<()> {
+    openings(rt, image, map, &[0, 268_435_968, 268_435_456, 512])?;
     deliveries(
+        rt,
         512,
         image,
         map,
         piece,
         &[0, 0, 1, 18_446_744_073_709_551_615],
-    );
-    deliver(512, image, map, 0, other);
-    deliver(512, image, map, 0, short);
+    )?;
+    deliver(rt, 512, image, map, 0, other)?;
+    deliver(rt, 512, image, map, 0, short)
 }
 
 // Refusals 1 to 4 of a delivery.
-fn refused(image: &mut [u8], map: &mut [u64], piece: &[u8]) {
-    deliver(0, image, map, 0, piece);
-    deliver(65_536, image, map, 0, piece);
-    deliver(512, image, &mut map[..0], 0, piece);
+fn refused(rt: &impl Print, image: &mut [u8], map: &mut [u64], piece: &[u8]) -> io::Result<()> {
+    deliver(rt, 0, image, map, 0, piece)?;
+    deliver(rt, 65_536, image, map, 0, piece)?;
+    deliver(rt, 512, image, &mut map[..0], 0, piece)?;
     put(map, 0, 3);
-    deliver(512, image, map, 0, piece);
+    deliver(rt, 512, image, map, 0, piece)
 }
 
 // 64 blocks: one word of the map is in use, with no spare bit, and the other stays. Block 0 has the piece's bytes since the first file.
-fn one_word(image: &mut [u8], map: &mut [u64], piece: &[u8]) {
-    open(32_768, image, map);
-    deliveries(32_768, image, map, piece, &[63, 64]);
-    say_word(map, 0);
-    say_word(map, 1);
+fn one_word(rt: &impl Print, image: &mut [u8], map: &mut [u64], piece: &[u8]) -> io::Result<()> {
+    open(rt, 32_768, image, map)?;
+    deliveries(rt, 32_768, image, map, piece, &[63, 64])?;
+    say_word(rt, map, 0)?;
+    say_word(rt, map, 1)?;
     put(map, 0, 18_446_744_073_709_551_615);
-    deliver(32_768, image, map, 0, piece);
+    deliver(rt, 32_768, image, map, 0, piece)
 }
 
-fn run(image: &mut [u8], map: &mut [u64], piece: &[u8], other: &[u8], short: &[u8]) {
-    one_block(image, map, piece, other, short);
-    open(512, image, &mut map[..0]);
-    refused(image, map, piece);
-    one_word(image, map, piece);
+fn run(
+    rt: &impl Print,
+    image: &mut [u8],
+    map: &mut [u64],
+    piece: &[u8],
+    other: &[u8],
+    short: &[u8],
+) -> io::Result<()> {
+    one_block(rt, image, map, piece, other, short)?;
+    open(rt, 512, image, &mut map[..0])?;
+    refused(rt, image, map, piece)?;
+    one_word(rt, image, map, piece)
 }
 
-fn main() {
+fn main(rt: HostRuntime) -> io::Result<()> {
     let mut image = [0u8; 32768];
     let mut map = [0, 5];
     let piece = [7u8; 512];
     let other = [9u8; 512];
     let short = [7u8; 511];
-    run(&mut image, &mut map, &piece, &other, &short);
+    run(&rt, &mut image, &mut map, &piece, &other, &short)
 }

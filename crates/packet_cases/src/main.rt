@@ -1,63 +1,81 @@
 // Runs packets to a file of two blocks near their edges, and writes a line for each call and each result.
+#![tactic(auto)]
+
 use intake::{Intake, Opened, PacketDelivered};
-use libc::STDOUT_FILENO;
 use refusal::Refusal;
+use std::io;
 
-fn say(word: &[u8], n: u64) {
-    io::write_all(STDOUT_FILENO, word);
-    io::print_decimal(STDOUT_FILENO, n);
-    io::write_all(STDOUT_FILENO, b"\n");
+fn say(rt: &impl Print, word: &str, n: u64) -> io::Result<()> {
+    println!(rt; "{word}{n}")
 }
 
-fn say_refused(refusal: Refusal) {
+fn say_refused(rt: &impl Print, refusal: Refusal) -> io::Result<()> {
     let fault = refusal.fault();
-    say(b"refused ", fault.number as u64);
-    say(b"carries ", fault.value);
-    say(b"entry ", fault.entry as u64);
+    say(rt, "refused ", fault.number as u64)?;
+    say(rt, "carries ", fault.value)?;
+    say(rt, "entry ", fault.entry as u64)
 }
 
-fn say_result(res: u32) {
-    say(b"result ", res as u64);
+fn say_result(rt: &impl Print, res: u32) -> io::Result<()> {
+    say(rt, "result ", res as u64)
 }
 
-fn say_results(results: &[u32]) {
-    let mut i = 0;
-    while i < results.len() {
-        say_result(results[i]);
-        i += 1;
+fn say_results(rt: &impl Print, results: &[u32]) -> io::Result<()> {
+    for res in results {
+        say_result(rt, *res)?;
     }
+    Ok(())
 }
 
-fn open(image: &[u8], map: &mut [u64]) {
+fn open(rt: &impl Print, image: &[u8], map: &mut [u64]) -> io::Result<()> {
     match intake::open(1024, image, map) {
-        Opened::Open { intake: _, blocks } => say(b"open ", blocks),
-        Opened::Refused(refusal) => say_refused(refusal),
+        Opened::Open { intake: _, blocks } => say(rt, "open ", blocks),
+        Opened::Refused(refusal) => say_refused(rt, refusal),
     }
 }
 
-fn packet(image: &mut [u8], map: &mut [u64], blocks: &[u64], pieces: &[u8], results: &mut [u32]) {
+fn packet(
+    rt: &impl Print,
+    image: &mut [u8],
+    map: &mut [u64],
+    blocks: &[u64],
+    pieces: &[u8],
+    results: &mut [u32],
+) -> io::Result<()> {
     match intake::deliver_packet(Intake::new(1024), image, map, blocks, pieces, results) {
-        PacketDelivered::Held(count) => say(b"held ", count),
-        PacketDelivered::Refused(refusal) => say_refused(refusal),
+        PacketDelivered::Held(count) => say(rt, "held ", count)?,
+        PacketDelivered::Refused(refusal) => say_refused(rt, refusal)?,
     }
-    say_results(results);
+    say_results(rt, results)
 }
 
 // New, New, Same and 5, with a longer list, then 7.
-fn taken(image: &mut [u8], map: &mut [u64], pieces: &[u8], other: &[u8]) {
+fn taken(
+    rt: &impl Print,
+    image: &mut [u8],
+    map: &mut [u64],
+    pieces: &[u8],
+    other: &[u8],
+) -> io::Result<()> {
     let mut results = [9u32; 5];
-    open(image, map);
-    packet(image, map, &[1, 0, 1, 2], pieces, &mut results);
-    packet(image, map, &[0], other, &mut results);
+    open(rt, image, map)?;
+    packet(rt, image, map, &[1, 0, 1, 2], pieces, &mut results)?;
+    packet(rt, image, map, &[0], other, &mut results)
 }
 
 // No block, without bytes and with bytes; then 6 before 17.
-fn sizes(image: &mut [u8], map: &mut [u64], pieces: &[u8], other: &[u8]) {
+fn sizes(
+    rt: &impl Print,
+    image: &mut [u8],
+    map: &mut [u64],
+    pieces: &[u8],
+    other: &[u8],
+) -> io::Result<()> {
     let mut none = [0u32; 0];
     let mut results = [9u32; 3];
-    packet(image, map, &[], &[], &mut none);
-    packet(image, map, &[], other, &mut results);
-    packet(image, map, &[0, 1, 2], pieces, &mut none);
+    packet(rt, image, map, &[], &[], &mut none)?;
+    packet(rt, image, map, &[], other, &mut results)?;
+    packet(rt, image, map, &[0, 1, 2], pieces, &mut none)
 }
 
 fn put(map: &mut [u64], word: u64) {
@@ -67,19 +85,19 @@ fn put(map: &mut [u64], word: u64) {
 }
 
 // 17, and with a spare bit 4 before 6.
-fn refused(image: &mut [u8], map: &mut [u64], pieces: &[u8]) {
+fn refused(rt: &impl Print, image: &mut [u8], map: &mut [u64], pieces: &[u8]) -> io::Result<()> {
     let mut results = [9u32; 3];
-    packet(image, map, &[0, 1, 2, 3], pieces, &mut results);
+    packet(rt, image, map, &[0, 1, 2, 3], pieces, &mut results)?;
     put(map, 7);
-    packet(image, map, &[0], &[], &mut results);
+    packet(rt, image, map, &[0], &[], &mut results)
 }
 
-fn main() {
+fn main(rt: HostRuntime) -> io::Result<()> {
     let mut image = [0u8; 1024];
     let mut map = [0u64; 1];
     let pieces = [7u8; 2048];
     let other = [9u8; 512];
-    taken(&mut image, &mut map, &pieces, &other);
-    sizes(&mut image, &mut map, &pieces, &other);
-    refused(&mut image, &mut map, &pieces);
+    taken(&rt, &mut image, &mut map, &pieces, &other)?;
+    sizes(&rt, &mut image, &mut map, &pieces, &other)?;
+    refused(&rt, &mut image, &mut map, &pieces)
 }
