@@ -141,7 +141,10 @@ fn words(refusal: Refusal) -> String {
         ("page 7 ", "a page "),
         ("the row index of a page ", "a row index "),
         ("the row of entry 3 on a page ", "a row "),
-        ("a string in a row ", "a string "),
+        (
+            "a string in a row is malformed",
+            "a string is malformed or outside its page",
+        ),
         (", it needs at least 7 elements", ""),
     ];
     named
