@@ -11,7 +11,7 @@
 #include <stdint.h>
 #include <stdio.h>
 
-#include "sarvoltig_text.h"
+#include "sarvoltig.h"
 
 enum { ROOM = 1 << 20, N = SARVOLTIG_SIZE_RESULT };
 
@@ -62,7 +62,7 @@ static uint32_t print_cues(size_t len)
 static int refused(const char *what, uint32_t code)
 {
     if (code != SARVOLTIG_CODE_DONE) {
-        fprintf(stderr, "%s: refused %" PRIu32 ", %s\n", what, code, sarvoltig_refusal_text(code));
+        fprintf(stderr, "%s: refused %" PRIu32 "\n", what, code);
     }
     return code != SARVOLTIG_CODE_DONE;
 }

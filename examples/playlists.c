@@ -58,6 +58,30 @@ typedef struct {
 static struct sarvoltig_intake intake;
 static const uint64_t *const result = intake.result;
 
+/* What is wrong, by the refusal's number. Those about ANLZ files are not met here. */
+static const char *const reasons[] = {
+    [SARVOLTIG_REFUSED_LENGTH] = "the file's length is not a multiple of 512 from 512 to 268435456",
+    [SARVOLTIG_REFUSED_IMAGE_SHORT] = "the image is shorter than the file",
+    [SARVOLTIG_REFUSED_MAP_SHORT] = "the map is too short",
+    [SARVOLTIG_REFUSED_MAP_SPARE] = "the map has a bit behind the last block",
+    [SARVOLTIG_REFUSED_BLOCK_NUMBER] = "there is no such block",
+    [SARVOLTIG_REFUSED_PIECE_SIZE] = "there are not 512 bytes for each block",
+    [SARVOLTIG_REFUSED_BLOCK_DIFFERS] = "the block is held with other bytes",
+    [SARVOLTIG_REFUSED_TABLE_TYPE] = "there is no such table type",
+    [SARVOLTIG_REFUSED_FILE_HEADER] = "the file header is broken",
+    [SARVOLTIG_REFUSED_NO_POINTER] = "the file has no such table",
+    [SARVOLTIG_REFUSED_PAGE_LINK] = "a link names no page; it stands on page",
+    [SARVOLTIG_REFUSED_PAGE_NUMBER] = "another page's number stands on page",
+    [SARVOLTIG_REFUSED_ROW_INDEX] = "the row index does not fit or has not as many rows as counted, of page",
+    [SARVOLTIG_REFUSED_ROW_SHORT] = "a row does not fit, on page",
+    [SARVOLTIG_REFUSED_TEXT_FAULT] = "a string is malformed or outside, on page",
+    [SARVOLTIG_REFUSED_CHAIN_LOOP] = "the table's pages come back to one before the last",
+    [SARVOLTIG_REFUSED_LIST_SHORT] = "the list is too short for the rows or blocks, which are",
+    [SARVOLTIG_REFUSED_NO_ROW] = "there is no such record",
+    [SARVOLTIG_REFUSED_NO_SLOT] = "there is no such string slot",
+    [SARVOLTIG_REFUSED_PAGE_TYPE] = "another table's type stands on page",
+};
+
 static void fail(const char *format, ...)
 {
     va_list args;
@@ -71,15 +95,38 @@ static void fail(const char *format, ...)
     exit(EXIT_FAILURE);
 }
 
-/* Ends the program unless a call was answered. */
-static void expect_done(const char *asked, uint32_t code)
+/* Ends the program over an answer that is no answer to what was asked. */
+static void refuse(const char *asked, uint32_t code)
 {
     if (code == SARVOLTIG_CODE_WAITING) {
         fail("%s: page %" PRIu64 " is not there", asked, result[SARVOLTIG_AT_WAITING_PAGE]);
     }
+    if (code >= sizeof reasons / sizeof reasons[0] || reasons[code] == NULL) {
+        fail("%s: refused %" PRIu32, asked, code);
+    }
+    switch (code) {
+    case SARVOLTIG_REFUSED_ROW_SHORT:
+    case SARVOLTIG_REFUSED_TEXT_FAULT:
+        fail("%s: refused %" PRIu32 ", %s %" PRIu64 ", index entry %" PRIu64, asked, code, reasons[code],
+             result[SARVOLTIG_AT_REFUSAL_VALUE], result[SARVOLTIG_AT_REFUSAL_ENTRY]);
+        break;
+    case SARVOLTIG_REFUSED_PAGE_LINK:
+    case SARVOLTIG_REFUSED_PAGE_NUMBER:
+    case SARVOLTIG_REFUSED_PAGE_TYPE:
+    case SARVOLTIG_REFUSED_ROW_INDEX:
+    case SARVOLTIG_REFUSED_LIST_SHORT:
+        fail("%s: refused %" PRIu32 ", %s %" PRIu64, asked, code, reasons[code], result[SARVOLTIG_AT_REFUSAL_VALUE]);
+        break;
+    default:
+        fail("%s: refused %" PRIu32 ", %s", asked, code, reasons[code]);
+    }
+}
+
+/* Ends the program unless a call was answered. */
+static void expect_done(const char *asked, uint32_t code)
+{
     if (code != SARVOLTIG_CODE_DONE) {
-        fail("%s: refused %" PRIu32 " with value %" PRIu64 ", entry %" PRIu64 ": %s", asked, code,
-             result[SARVOLTIG_AT_REFUSAL_VALUE], result[SARVOLTIG_AT_REFUSAL_ENTRY], sarvoltig_refusal_text(code));
+        refuse(asked, code);
     }
 }
 
@@ -161,7 +208,7 @@ static void take_packet(FILE *file, const char *path, const uint64_t *blocks, si
     expect_done(path, sarvoltig_intake_packet(&intake, &packet));
     for (i = 0; i < count; i++) {
         if (codes[i] != SARVOLTIG_CODE_DONE && codes[i] != SARVOLTIG_CODE_SAME) {
-            fail("%s: block %" PRIu64 ": %s", path, blocks[i], sarvoltig_refusal_text(codes[i]));
+            refuse(path, codes[i]);
         }
     }
 }

@@ -274,10 +274,13 @@ impl fmt::Display for Refusal {
             }
             Self::TextFault { page, entry } => write!(
                 f,
-                "a string in the row of entry {entry} on page {page} is malformed or outside its page"
+                "a string in the row of entry {entry} on page {page} is malformed"
             ),
             Self::ListShort(needed) => {
-                write!(f, "the list is too short, it needs at least {needed} elements")
+                write!(
+                    f,
+                    "the list is too short, it needs at least {needed} elements"
+                )
             }
             Self::PageType(page) => write!(f, "page {page} is of another table"),
             Self::Other {

@@ -3,17 +3,18 @@
 use crate::raw::{DONE, WAITING};
 use crate::Refusal;
 
-/// Where a walk along a table's pages waits: at the first page that is not wholly there.
+/// Where a walk along a table's pages waits: at the first page that is not wholly there. The numbers of
+/// [`Walk::Waiting`] and of [`Reply::Waiting`] together.
 ///
 /// ```
-/// use sarvoltig::{Intake, Reply, Table, Waiting, Walk};
+/// use sarvoltig::{Intake, Table, Waiting};
 ///
 /// let (mut image, mut map, mut list) = ([0; 1024], [0; 1], [0; 10]);
 /// let intake = Intake::open(&mut image, &mut map)?;
 /// // block 0 has the directory
-/// let waiting = Waiting { page: 0, rows: 0, pages: 0 };
-/// assert_eq!(intake.rows_into(Table::Genres, &mut list)?, Walk::Waiting(waiting));
-/// assert_eq!(intake.record(Table::Genres, 7)?, Reply::Waiting(waiting));
+/// let waiting = Some(Waiting { page: 0, rows: 0, pages: 0 });
+/// assert_eq!(intake.rows_into(Table::Genres, &mut list)?.waiting(), waiting);
+/// assert_eq!(intake.record(Table::Genres, 7)?.waiting(), waiting);
 /// # Ok::<(), sarvoltig::Refusal>(())
 /// ```
 #[derive(Clone, Copy, Debug, PartialEq, Eq, Hash)]
@@ -48,7 +49,20 @@ pub enum Walk {
         pages: u64,
     },
     /// To a page that is not wholly there.
-    Waiting(Waiting),
+    Waiting {
+        /// That page, 0 for the directory.
+        page: u64,
+        /// The rows found before it.
+        rows: u64,
+        /// The pages walked before it.
+        pages: u64,
+    },
+}
+
+impl From<Waiting> for Walk {
+    fn from(Waiting { page, rows, pages }: Waiting) -> Self {
+        Self::Waiting { page, rows, pages }
+    }
 }
 
 impl Walk {
@@ -59,7 +73,7 @@ impl Walk {
                 rows: result[0],
                 pages: result[1],
             }),
-            WAITING => Ok(Self::Waiting(Waiting::from_result(result))),
+            WAITING => Ok(Waiting::from_result(result).into()),
             number => Err(Refusal::from_result(number, result)),
         }
     }
@@ -68,7 +82,16 @@ impl Walk {
     #[must_use]
     pub fn rows(self) -> u64 {
         match self {
-            Self::Full { rows, .. } | Self::Waiting(Waiting { rows, .. }) => rows,
+            Self::Full { rows, .. } | Self::Waiting { rows, .. } => rows,
+        }
+    }
+
+    /// Where the walk waits, if it does.
+    #[must_use]
+    pub fn waiting(self) -> Option<Waiting> {
+        match self {
+            Self::Full { .. } => None,
+            Self::Waiting { page, rows, pages } => Some(Waiting { page, rows, pages }),
         }
     }
 
@@ -85,7 +108,20 @@ pub enum Reply<T> {
     /// It is there.
     Found(T),
     /// It was not found yet: a page is not wholly there.
-    Waiting(Waiting),
+    Waiting {
+        /// That page, 0 for the directory.
+        page: u64,
+        /// The rows found before it; 0 where no table was walked.
+        rows: u64,
+        /// The pages walked before it; 0 where no table was walked.
+        pages: u64,
+    },
+}
+
+impl<T> From<Waiting> for Reply<T> {
+    fn from(Waiting { page, rows, pages }: Waiting) -> Self {
+        Self::Waiting { page, rows, pages }
+    }
 }
 
 impl<T> Reply<T> {
@@ -97,7 +133,7 @@ impl<T> Reply<T> {
     ) -> Result<Self, Refusal> {
         match code {
             DONE => Ok(Self::Found(found(result))),
-            WAITING => Ok(Self::Waiting(Waiting::from_result(result))),
+            WAITING => Ok(Waiting::from_result(result).into()),
             number => Err(Refusal::from_result(number, result)),
         }
     }
@@ -106,7 +142,16 @@ impl<T> Reply<T> {
     pub fn found(self) -> Option<T> {
         match self {
             Self::Found(found) => Some(found),
-            Self::Waiting(_) => None,
+            Self::Waiting { .. } => None,
+        }
+    }
+
+    /// What is waited for, if anything is.
+    #[must_use]
+    pub fn waiting(&self) -> Option<Waiting> {
+        match *self {
+            Self::Found(_) => None,
+            Self::Waiting { page, rows, pages } => Some(Waiting { page, rows, pages }),
         }
     }
 }

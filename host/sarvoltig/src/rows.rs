@@ -4,8 +4,14 @@ use crate::{Intake, Record, Refusal, Reply, Row, Table, Text, Walk};
 use core::iter::FusedIterator;
 use core::ops::Range;
 
+/// The list of `Intake::rows`.
+#[cfg(feature = "alloc")]
+type Own = alloc::vec::Vec<u32>;
+#[cfg(not(feature = "alloc"))]
+type Own = [u32; 0];
+
 /// The rows of a table that were found, in order: a list of their places, and where the walk came to. The list `P` is
-/// the caller's, of [`Intake::rows_in`], or one of its own, of `Intake::rows`.
+/// the caller's, of [`Intake::rows_in`], or one of its own, of `Intake::rows`, which is meant where none is named.
 ///
 /// ```
 /// # use sarvoltig::*;
@@ -27,7 +33,7 @@ use core::ops::Range;
 /// # Ok::<(), Box<dyn std::error::Error>>(())
 /// ```
 #[derive(Clone, Debug)]
-pub struct Rows<'a, P> {
+pub struct Rows<'a, P = Own> {
     intake: &'a Intake<'a>,
     table: Table,
     walk: Walk,

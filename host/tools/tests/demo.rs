@@ -1,6 +1,6 @@
-//! `demo`, and what it prints of an export.
+//! What `demo` logs of an export, and the artists that it lists; `programs.rs` has its other tests.
 
-use sarvoltig::{map_words, Intake, Table, Track, BLOCK};
+use sarvoltig::{map_words, Intake, Table, BLOCK};
 use sarvoltig_reference::generate;
 use sarvoltig_reference::model::RowCounts;
 use std::collections::HashSet;
@@ -22,34 +22,6 @@ fn written(name: &str, bytes: &[u8]) -> PathBuf {
     let path = Path::new(env!("CARGO_TARGET_TMPDIR")).join(name);
     fs::write(&path, bytes).expect("a file");
     path
-}
-
-#[test]
-fn the_stored_export_is_the_generated_one() {
-    let stored = fs::read(stored_export()).expect("a file");
-    assert!(stored == generate::demo(), "`export` writes another file");
-}
-
-#[test]
-fn the_demo_ends_with_the_playlists() {
-    let path = stored_export();
-    let path = path.to_str().expect("text");
-    let usual = demo(&[path]);
-    let harsh = demo(&[path, "--harsh", "--seed", "7"]);
-    for output in [&usual, &harsh] {
-        assert!(output.status.success());
-        let text = String::from_utf8_lossy(&output.stdout);
-        assert!(text.contains("54 of 54 blocks held"), "{text}");
-        assert!(
-            text.ends_with("   8  Last Bus Home   Ione Castell\n"),
-            "{text}"
-        );
-    }
-    let tail = |output: &Output| {
-        let text = String::from_utf8_lossy(&output.stdout).into_owned();
-        text[text.find("Saturday/").expect("the folder")..].to_string()
-    };
-    assert_eq!(tail(&usual), tail(&harsh));
 }
 
 /// What the demo prints of an export: the log of what arrives, and the playlists.
@@ -101,49 +73,6 @@ fn the_demo_counts_one_in_the_singular() {
     assert!(text.contains("1 of 1 block held; 1 new"), "{text}");
 }
 
-#[test]
-fn the_demo_takes_packets() {
-    let (log, playlists) = stored_log(&[]);
-    assert!(!log.contains("packets"), "{log}");
-    for most in ["1", "8", "64", "18446744073709551615"] {
-        for words in [&["--packet", most][..], &["--packet", most, "--harsh"]] {
-            let (log, listed) = stored_log(words);
-            assert!(log.contains("54 of 54 blocks held; 54 new"));
-            assert_eq!(listed, playlists, "{words:?}");
-        }
-    }
-    let (log, _) = stored_log(&["--packet", "8"]);
-    let last = log.lines().rfind(|line| line.contains("packets"));
-    assert_eq!(last, Some("  packets: 7, refused whole: 0"));
-    // one piece is cut, and the packet that it came with is sent again
-    let (log, _) = stored_log(&["--packet", "8", "--harsh"]);
-    let last = log.lines().rfind(|line| line.contains("packets"));
-    assert_eq!(last, Some("  packets: 10, refused whole: 1"));
-}
-
-#[test]
-fn the_demo_says_which_option_is_wrong() {
-    let wrong = [
-        (&["--packet"][..], "--packet takes a number from 1 on\n"),
-        (
-            &["--packet", "0"],
-            "--packet takes a number from 1 on, not \"0\"\n",
-        ),
-        (
-            &["--packet", "-1"],
-            "--packet takes a number from 1 on, not \"-1\"\n",
-        ),
-        (&["--late", "x"], "--late takes a number, not \"x\"\n"),
-        (&["--packets", "8"], "\"--packets\" is no option\n"),
-    ];
-    for (words, line) in wrong {
-        let output = demo(&[&["file"], words].concat());
-        assert_eq!(output.status.code(), Some(2), "{words:?}");
-        let error = String::from_utf8_lossy(&output.stderr);
-        assert!(error.starts_with(&format!("demo: {line}usage: demo FILE ")));
-    }
-}
-
 /// Where the rows of a table start.
 fn places(file: &[u8], table: Table) -> Vec<usize> {
     let mut image = vec![0; file.len()];
@@ -156,9 +85,9 @@ fn places(file: &[u8], table: Table) -> Vec<usize> {
     rows.iter().map(|row| row.place() as usize).collect()
 }
 
-/// The lines that the demo prints for tracks: an index, and what follows it.
+/// The lines that the demo prints for tracks with their artists: an index, and what follows it.
 fn track_lines(path: &Path) -> Vec<String> {
-    let (_, playlists) = log_and_playlists(path, &[]);
+    let (_, playlists) = log_and_playlists(path, &["--artists"]);
     playlists
         .lines()
         .filter_map(|line| line.trim_start().split_once("  "))
@@ -208,83 +137,9 @@ fn the_demo_lists_titles_where_the_artists_are_refused() {
     let mut file = generate::demo();
     file[15 * 1024 + 0x04] = 14;
     let path = written("no_artists.pdb", &file);
-    let (log, _) = log_and_playlists(&path, &[]);
+    let (log, _) = log_and_playlists(&path, &["--artists"]);
     assert!(log.contains("\n  Artists               refused 12: "));
     let lines = track_lines(&path);
     assert_eq!(lines[0], "Morning Tram  SENFE0200001");
     assert_eq!(lines[3], "Tidal");
-}
-
-/// Slot 0 of some tracks is made to name the string of another of their slots.
-#[test]
-fn the_demo_lists_ascii_texts_of_slot_0() {
-    const OFFSETS: usize = 0x5e;
-    const DATE_ADDED: usize = 10;
-    let mut file = generate::demo();
-    let tracks = places(&file, Table::Tracks);
-    let mut name = |k: usize, slot: usize| {
-        let offsets = tracks[k] + OFFSETS;
-        file.copy_within(offsets + 2 * slot..offsets + 2 * slot + 2, offsets);
-        offsets - OFFSETS + usize::from(file[offsets]) + (usize::from(file[offsets + 1]) << 8)
-    };
-    name(0, DATE_ADDED);
-    let date = name(1, DATE_ADDED);
-    name(7, Track::TITLE as usize);
-    file[date + 1] = 0x1b;
-    let lines = track_lines(&written("codes.pdb", &file));
-    assert_eq!(lines[0], "Morning Tram  Tamsin Okoro  2024-05-11");
-    assert_eq!(lines[1], "Copper Wire   Tamsin Okoro  \u{fffd}024-05-11");
-    assert_eq!(lines[7], "Blå Timme     Velvet Ferry");
-}
-
-#[test]
-fn the_demo_refuses_what_is_no_export() {
-    let cut = written("cut.pdb", &generate::demo()[..1000]);
-    let refused = demo(&[cut.to_str().expect("text")]);
-    assert_eq!(refused.status.code(), Some(1));
-    assert!(String::from_utf8_lossy(&refused.stderr).contains("refused 1"));
-    let zeros = written("zeros.pdb", &[0; 1024]);
-    let refused = demo(&[zeros.to_str().expect("text")]);
-    assert_eq!(refused.status.code(), Some(1));
-    assert!(String::from_utf8_lossy(&refused.stderr).contains("refused 9"));
-    assert_eq!(demo(&["no such file"]).status.code(), Some(1));
-    assert_eq!(demo(&[]).status.code(), Some(2));
-    assert_eq!(demo(&["file", "--late", "x"]).status.code(), Some(2));
-}
-
-/// Page 22 of the stored export, of 1,024 bytes, has the playlist tree. One byte of it is written over.
-#[test]
-fn the_demo_says_where_a_fault_is() {
-    const PAGE: usize = 22 * 1024;
-    const NAME_OF_ENTRY_3: usize = PAGE + 0x28 + 82 + 0x14;
-    const OFFSET_OF_ENTRY_3: usize = PAGE + 1024 - 6 - 2 * 3;
-    let faults = [
-        (
-            PAGE + 0x04,
-            1,
-            "refused 12: page 22 has another page's number\n",
-        ),
-        (PAGE + 0x08, 8, "refused 25: page 22 is of another table\n"),
-        (
-            OFFSET_OF_ENTRY_3 + 1,
-            255,
-            "refused 14: the row of entry 3 on page 22 does not fit\n",
-        ),
-        (
-            NAME_OF_ENTRY_3,
-            0,
-            "refused 15: a string in the row of entry 3 on page 22 is malformed or outside its page\n",
-        ),
-    ];
-    for (at, byte, line) in faults {
-        let mut file = generate::demo();
-        file[at] = byte;
-        let path = written("fault.pdb", &file);
-        let refused = demo(&[path.to_str().expect("text")]);
-        assert_eq!(refused.status.code(), Some(1));
-        let text = String::from_utf8_lossy(&refused.stdout);
-        assert!(text.contains(&format!("  PlaylistTree          {line}")));
-        let error = String::from_utf8_lossy(&refused.stderr);
-        assert!(error.ends_with(&format!("fault.pdb\": {line}")), "{error}");
-    }
 }

@@ -5,7 +5,7 @@ use sarvoltig_tools::failure::Failure;
 use sarvoltig_tools::grid::show;
 use std::fs;
 use std::path::{Path, PathBuf};
-use std::process::{Command, Output};
+use std::process::{Command, Output, Stdio};
 use std::time::{Duration, Instant};
 
 fn stored_anlz() -> PathBuf {
@@ -269,7 +269,7 @@ fn grid_shows_what_is_not_refused() {
             assert!(text.contains(part), "{part} is not in {text}");
         }
     };
-    let shown_wave = "\nwaveform PWV5: 1 entry, 0:00.006\n\n\n\n▁\n";
+    let shown_wave = "\nwaveform PWV5: 1 entries, 0:00.006\n\n\n\n▁\n";
     let bar = "\n         0    0:00.000  125.00  1 2\n";
     let sections = [bad_list.clone(), beat_grid(&[1, 2]), good_wave.clone()];
     check(&sections, 26, &[told_cues, shown_wave, bar]);
@@ -398,4 +398,18 @@ fn grid_takes_each_option_once() {
         assert!(output.status.success());
         assert_eq!(String::from_utf8_lossy(&output.stdout), shown(width, &file));
     }
+}
+
+#[test]
+fn grid_ends_quietly_when_nobody_reads() {
+    let mut grid = Command::new(env!("CARGO_BIN_EXE_grid"))
+        .arg(stored_anlz())
+        .stdout(Stdio::piped())
+        .stderr(Stdio::piped())
+        .spawn()
+        .expect("grid runs");
+    drop(grid.stdout.take());
+    let output = grid.wait_with_output().expect("an end");
+    assert!(output.status.success());
+    assert_eq!(String::from_utf8_lossy(&output.stderr), "");
 }

@@ -122,6 +122,7 @@ fn blocks_of_chains(file: &[u8], rng: &mut Rng) -> Vec<u64> {
 /// use sarvoltig_reference::{generate, rng::Rng, schedule::{schedule, Call}};
 ///
 /// let calls = schedule(&generate::demo(), &mut Rng::new(1));
+/// assert!(matches!(calls[0], Call::Lend { .. }));
 /// assert!(calls.contains(&Call::Open { len: 27_648 }));
 /// ```
 pub fn schedule(export: &[u8], rng: &mut Rng) -> Vec<Call> {

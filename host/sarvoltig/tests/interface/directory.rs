@@ -54,9 +54,9 @@ fn block_0_is_enough() {
         for &mut (block, piece) in &mut others[..before] {
             intake.deliver(block, piece).expect("a new block");
         }
-        assert_eq!(intake.layout(), Ok(Reply::Waiting(WAITS)));
+        assert_eq!(intake.layout(), Ok(WAITS.into()));
         for table in Table::ALL {
-            assert_eq!(intake.bounds(table), Ok(Reply::Waiting(WAITS)));
+            assert_eq!(intake.bounds(table), Ok(WAITS.into()));
             absent += usize::from(pointer(&file, table).is_none());
         }
         intake.deliver(0, block_0.1).expect("a new block");

@@ -40,10 +40,11 @@ fn c_values(name: &str, expressions: &[String]) -> Vec<u64> {
         .collect()
 }
 
-/// The constants of the header whose names begin so, without that.
+/// The constants of the header whose names begin so, without that. The names of version 0.1 stand behind them.
 fn c_constants(prefix: &str) -> Constants {
     let header = fs::read_to_string(Path::new(INCLUDE).join("sarvoltig.h")).expect("the header");
-    let words = header.split(|c: char| !c.is_ascii_alphanumeric() && c != '_');
+    let today = header.split_once("The names of version 0.1").expect("both").0;
+    let words = today.split(|c: char| !c.is_ascii_alphanumeric() && c != '_');
     let names: BTreeSet<&str> = words
         .filter_map(|word| word.strip_prefix(prefix))
         .filter(|name| !name.is_empty())
@@ -141,7 +142,10 @@ fn words(refusal: Refusal) -> String {
         ("page 7 ", "a page "),
         ("the row index of a page ", "a row index "),
         ("the row of entry 3 on a page ", "a row "),
-        ("a string in a row ", "a string "),
+        (
+            "a string in a row is malformed",
+            "a string is malformed or outside its page",
+        ),
         (", it needs at least 7 elements", ""),
     ];
     named

@@ -1,7 +1,7 @@
 //! Rows are read from lists of places as the questions answer them.
 
 use crate::support::{numbers, room, with_intake};
-use sarvoltig::{map_words, Intake, Refusal, Reply, Table, Waiting, BLOCK};
+use sarvoltig::{map_words, Intake, Refusal, Reply, Table, BLOCK};
 use sarvoltig_reference::generate::{export, Export, Options};
 use sarvoltig_reference::rng::Rng;
 use std::collections::HashMap;
@@ -159,7 +159,7 @@ fn a_list_waits_for_its_page() {
     let row = &expected.tables[0].rows[0];
     let waits = |intake: &Intake, page| {
         let (rows, pages) = (0, 0);
-        let waiting = Ok(Reply::Waiting(Waiting { page, rows, pages }));
+        let waiting = Ok(Reply::Waiting { page, rows, pages });
         intake.record_in(Table::Tracks, &[row.place], 0) == waiting
     };
     assert!(waits(&intake, 0));

@@ -64,10 +64,7 @@ fn refusals_are_told_apart_in_words() {
     let told = [
         (12, "page 7 has another page's number"),
         (14, "the row of entry 3 on page 7 does not fit"),
-        (
-            15,
-            "a string in the row of entry 3 on page 7 is malformed or outside its page",
-        ),
+        (15, "a string in the row of entry 3 on page 7 is malformed"),
         (25, "page 7 is of another table"),
         (26, "a cue list of the ANLZ file is malformed"),
         (28, "refusal 28 with 7 and entry 3"),

@@ -1,7 +1,7 @@
 //! A walk waits at the first page that is not wholly there, and every answer says so in the same way.
 
 use crate::support::room;
-use sarvoltig::{map_words, Intake, Reply, Table, Waiting, Walk, BLOCK};
+use sarvoltig::{map_words, Intake, Table, Waiting, Walk, BLOCK};
 use sarvoltig_reference::generate::{export, Export, Options};
 use sarvoltig_reference::rng::Rng;
 use std::ops::Range;
@@ -18,11 +18,11 @@ fn blocks_of(page: u64, len_page: u32) -> Range<u64> {
 /// Where a table's walk came to. A record and a string that are not found so far wait as all rows do.
 fn walk(intake: &Intake, table: Table) -> Walk {
     let walk = intake.rows_into(table, &mut room()).expect("good pages");
-    if let Walk::Waiting(waiting) = walk {
+    if let Some(waiting) = walk.waiting() {
         for k in [waiting.rows, u64::MAX] {
-            assert_eq!(intake.record(table, k), Ok(Reply::Waiting(waiting)));
+            assert_eq!(intake.record(table, k), Ok(waiting.into()));
             if table != Table::PlaylistEntries {
-                assert_eq!(intake.text(table, k, 0), Ok(Reply::Waiting(waiting)));
+                assert_eq!(intake.text(table, k, 0), Ok(waiting.into()));
             }
         }
     }
@@ -32,7 +32,7 @@ fn walk(intake: &Intake, table: Table) -> Walk {
 /// Fetches the blocks that a table waits for, and no others, until its walk is full: what it waited for, page by page.
 fn fetch(intake: &mut Intake, file: &[u8], table: Table, len_page: u32) -> Vec<Waiting> {
     let mut waits = Vec::new();
-    while let Walk::Waiting(waiting) = walk(intake, table) {
+    while let Some(waiting) = walk(intake, table).waiting() {
         let blocks = blocks_of(waiting.page, len_page);
         let missing = intake.next_missing(blocks.start);
         let missing = missing.filter(|block| blocks.contains(block));

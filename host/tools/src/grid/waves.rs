@@ -1,7 +1,6 @@
 //! Waveforms as pictures of block characters.
 
 use super::minutes;
-use crate::output::counted;
 use sarvoltig::{Wave, WaveEntry};
 use std::io::{self, Write};
 
@@ -50,13 +49,12 @@ pub fn print_wave<'a>(
     if entries.is_empty() {
         return Ok(());
     }
-    let number = counted(count, "entry", "entries");
     let Some(heights) = entries.iter().map(height).collect::<Option<Vec<u8>>>() else {
-        return writeln!(out, "\nwaveform PWV{sort}: {number}, not shown");
+        return writeln!(out, "\nwaveform PWV{sort}: {count} entries, not shown");
     };
     let length = minutes(count * 1000 / ENTRIES_A_SECOND);
     let length = length.trim_start();
-    writeln!(out, "\nwaveform PWV{sort}: {number}, {length}")?;
+    writeln!(out, "\nwaveform PWV{sort}: {count} entries, {length}")?;
     let columns = columns(&heights, width);
     for line in (0..LINES).rev() {
         writeln!(out, "{}", picture_line(&columns, line).trim_end())?;

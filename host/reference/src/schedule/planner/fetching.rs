@@ -6,9 +6,10 @@ use crate::model::Table;
 use crate::schedule::Call;
 
 impl Planner<'_> {
-    /// Sometimes questions before there are buffers.
+    /// Sometimes questions about buffers of no bytes, which every run is lent first.
     pub(super) fn ask_without_buffers(&mut self) {
         if self.fetch_rng.chance(1, 8) {
+            self.calls.push(Call::Lend { image: 0, words: 0 });
             self.ask_to_fetch(4);
         }
     }

@@ -1,10 +1,11 @@
-//! `demo FILE [--packet N] [--late N] [--repeated N] [--harsh] [--seed N] [--pause MS] [--tracks N]`: the main job on a
-//! terminal.
+//! `demo FILE [--packet N] [--late N] [--repeated N] [--harsh] [--seed N] [--pause MS] [--tracks N] [--artists]`: the main
+//! job on a terminal.
 //!
 //! The file's blocks arrive out of order, some late and some repeated (N of a hundred), one by one or in packets of up to
 //! N. The display shows the blocks held and the rows known of each table, and at the end the playlists with their tracks,
-//! each with its artist and its recording code where it has them. A row once listed is never taken back: each answer is
-//! compared with the one before. Where standard output is no terminal, what has changed is printed now and then.
+//! each with its recording code where it has one, and with `--artists` with its artist. A row once listed is never taken
+//! back: each answer is compared with the one before. Where standard output is no terminal, what has changed is printed
+//! now and then.
 
 mod network;
 mod options;
@@ -86,7 +87,7 @@ fn run(options: &Options) -> Result<(), Failure> {
     let pause = Duration::from_millis(options.pause);
     take_in(&mut intake, &deliveries, pause, &mut screen)?;
     writeln!(out)?;
-    playlists::print(&intake, options.tracks, &mut out)?;
+    playlists::print(&intake, options, &mut out)?;
     Ok(out.flush()?)
 }
 
@@ -100,7 +101,7 @@ fn main() -> ExitCode {
     };
     match run(&options) {
         Err(failure) if !failure.is_closed_pipe() => {
-            eprintln!("demo: {:?}: {failure}", options.file);
+            eprintln!("demo: {}: {failure}", options.file.display());
             ExitCode::FAILURE
         }
         _ => ExitCode::SUCCESS,

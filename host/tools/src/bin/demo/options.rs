@@ -6,7 +6,7 @@ use std::path::PathBuf;
 use std::str::FromStr;
 
 pub const USAGE: &str = "\
-usage: demo FILE [--packet N] [--late N] [--repeated N] [--harsh] [--seed N] [--pause MS] [--tracks N]";
+usage: demo FILE [--packet N] [--late N] [--repeated N] [--harsh] [--seed N] [--pause MS] [--tracks N] [--artists]";
 
 /// What the command line asks for.
 pub struct Options {
@@ -22,6 +22,8 @@ pub struct Options {
     pub pause: u64,
     /// The most tracks that are listed of a playlist.
     pub tracks: usize,
+    /// Whether each track has its artist behind its title.
+    pub artists: bool,
 }
 
 impl Options {
@@ -37,6 +39,7 @@ impl Options {
             seed: 1,
             pause: 15,
             tracks: 20,
+            artists: false,
         };
         while let Some(word) = words.next() {
             let word = word.to_string_lossy();
@@ -50,6 +53,7 @@ impl Options {
                 "--seed" => options.seed = number(word, "a number", words.next())?,
                 "--pause" => options.pause = number(word, "a number", words.next())?,
                 "--tracks" => options.tracks = number(word, "a number", words.next())?,
+                "--artists" => options.artists = true,
                 "--harsh" => (options.late, options.repeated, options.damaged) = (70, 40, 20),
                 _ => return Err(format!("{word:?} is no option")),
             }

@@ -1,5 +1,6 @@
 //! The playlists with their tracks.
 
+use crate::options::Options;
 use crate::printable;
 use crate::tracks::Tracks;
 use sarvoltig::{Intake, Record, Refusal, Table};
@@ -8,9 +9,10 @@ use std::collections::{HashMap, HashSet};
 use std::io::Write;
 
 /// Prints the playlists with their tracks, at most so many of each, folders opened out.
-pub fn print(intake: &Intake, most: usize, out: &mut impl Write) -> Result<(), Failure> {
+pub fn print(intake: &Intake, options: &Options, out: &mut impl Write) -> Result<(), Failure> {
+    let most = options.tracks;
     let (nodes, entries) = (nodes(intake)?, entries(intake)?);
-    let tracks = Tracks::read(intake)?;
+    let tracks = Tracks::read(intake, options.artists)?;
     for (level, node) in menu(&nodes) {
         let mark = if node.folder { "/" } else { "" };
         writeln!(out, "{}{}{mark}", "  ".repeat(level), node.name)?;

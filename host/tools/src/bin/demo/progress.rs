@@ -1,7 +1,7 @@
 //! What has arrived, and what is known of each table.
 
 use crate::network::{Arrival, Delivery, Packet};
-use sarvoltig::{Accepted, Delivered, Intake, Refusal, Table, Waiting, Walk};
+use sarvoltig::{Accepted, Delivered, Intake, Refusal, Table, Walk};
 use sarvoltig_tools::output::counted;
 use std::collections::HashMap;
 
@@ -98,7 +98,7 @@ impl Progress {
 fn state(walk: Walk) -> String {
     match walk {
         Walk::Full { pages, .. } => format!(" on {}, complete", counted(pages, "page", "pages")),
-        Walk::Waiting(Waiting { page: 0, .. }) => ", waits for the directory".to_string(),
-        Walk::Waiting(Waiting { page, .. }) => format!(", waits for page {page}"),
+        Walk::Waiting { page: 0, .. } => ", waits for the directory".to_string(),
+        Walk::Waiting { page, .. } => format!(", waits for page {page}"),
     }
 }

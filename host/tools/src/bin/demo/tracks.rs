@@ -20,8 +20,9 @@ struct Listed<'a> {
 }
 
 impl<'a> Tracks<'a> {
-    /// The rows by their ids; the first where an id comes twice. A table of artists that is refused has none.
-    pub fn read(intake: &'a Intake) -> Result<Self, Refusal> {
+    /// The rows by their ids; the first where an id comes twice. A table of artists that is refused has none, as one that
+    /// is not wanted.
+    pub fn read(intake: &'a Intake, with_artists: bool) -> Result<Self, Refusal> {
         let mut tracks = HashMap::new();
         for row in &intake.rows(Table::Tracks)? {
             if let Record::Track(Track { id, artist_id, .. }) = row.record()? {
@@ -32,7 +33,8 @@ impl<'a> Tracks<'a> {
                 });
             }
         }
-        let artists = artists(intake).unwrap_or_default();
+        let artists = with_artists.then(|| artists(intake).unwrap_or_default());
+        let artists = artists.unwrap_or_default();
         Ok(Self { tracks, artists })
     }
 
