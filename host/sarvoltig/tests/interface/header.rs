@@ -43,7 +43,10 @@ fn c_values(name: &str, expressions: &[String]) -> Vec<u64> {
 /// The constants of the header whose names begin so, without that. The names of version 0.1 stand behind them.
 fn c_constants(prefix: &str) -> Constants {
     let header = fs::read_to_string(Path::new(INCLUDE).join("sarvoltig.h")).expect("the header");
-    let today = header.split_once("The names of version 0.1").expect("both").0;
+    let today = header
+        .split_once("The names of version 0.1")
+        .expect("both")
+        .0;
     let words = today.split(|c: char| !c.is_ascii_alphanumeric() && c != '_');
     let names: BTreeSet<&str> = words
         .filter_map(|word| word.strip_prefix(prefix))
