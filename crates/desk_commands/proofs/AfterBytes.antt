@@ -1,6 +1,7 @@
 -- Rules 9.7 and 9.9: the state after the bytes of a command (specs/Run), from what `desk_steps::decode` and `desk_steps::step` ensure.
 use mathlib.Core.Path.{◌≡◌, ap}
 use Prim.Native.Nat.{ℕ}
+use Rattle.std.proofs.Common.{Result, Ok, Err, OnErr}
 use Rattle.lists.specs.Alias.{Bytes, Words, Places}
 use Rattle.desk_steps.specs.declared.Command.{Command}
 use Rattle.desk_steps.specs.declared.Decoded.{Decoded}
@@ -11,8 +12,8 @@ use Rattle.desk_steps.specs.State.{State, state}
 use Rattle.desk_steps.specs.Step.{StepOutcome, step, stepped_of}
 use Rattle.desk_commands.specs.declared.After.{After}
 use Rattle.desk_commands.specs.declared.After.TheVariants.{Stop}
-use Rattle.desk_commands.specs.Run.{command_bytes, after_bytes}
-use Rattle.desk_commands.specs.Private.{len_next}
+use Rattle.desk_commands.specs.Run.{CommandBytes, command_bytes, after_bytes}
+use Rattle.desk_commands.specs.Private.{len_next, LeftAfter}
 
 module _ (s : State) (kind : ℕ) (body : Bytes) (r : Decoded) (e : decoded_of r body ≡ decoded kind body) where
   pub after_whole : (command : Command) → r ≡ Whole command → (stepped : Stepped) {image : Bytes} {map : Words} {list : Places}
@@ -27,3 +28,9 @@ module _ (s : State) (kind : ℕ) (body : Bytes) (r : Decoded) (e : decoded_of r
   pub after_cut : r ≡ Cut → (after : After) → after ≡ Stop
       → state (len_next s.len after) s.image s.map s.list ≡ after_bytes s (command_bytes kind body)
   after_cut k after h = rw (← e, k, h)
+
+-- what a command leaves whose answer ends in an error
+pub left_after : {A E : Type 0} (s : State) (bytes : CommandBytes) {len : ℕ} {image : Bytes} {map : Words} {list : Places} (r : Result A E)
+    → state len image map list ≡ after_bytes s bytes → OnErr r (LeftAfter s bytes image map list)
+left_after s bytes (Ok _) e = tt
+left_after s bytes {len = len} (Err _) e = record { len = len; is = e }

@@ -1,14 +1,17 @@
-// The desk program: reads commands from a file descriptor, runs each, and answers on standard output.
-ghost use Rattle.std.specs.Prelude.{◌≡◌, ◌≤◌, length};
-ghost use Rattle.io.specs.Counts.{IsPrefixLen};
+// The desk program: reads commands from a reader, runs each, and answers to a writer.
+#![tactic(auto)]
+
+ghost use Rattle.std.specs.Prelude.{◌≡◌, ◌≤◌, length, IfOk, OnErr};
+ghost use Rattle.std.specs.Io.{ReadsAtMost};
 ghost use Rattle.desk_steps.specs.Command.{body_size};
 ghost use Rattle.desk_steps.specs.State.{state};
 ghost use Rattle.desk_commands.specs.Run.{Reached, Ran, command_bytes, after_bytes};
-ghost use Rattle.desk_commands.specs.Private.{len_next};
+ghost use Rattle.desk_commands.specs.Private.{len_next, Left, LeftAfter};
 
 use desk_steps::{Command, Decoded, Reply};
 use intake::Intake;
-use libc::STDOUT_FILENO;
+use std::io;
+use std::io::{ErrorKind, Read, Write};
 
 // What follows a command: the intake that the next one takes, or the end.
 #[derive(Drop)]
@@ -17,130 +20,165 @@ enum After {
     Stop,
 }
 
-fn say(word: &[u8], n: u64) {
-    io::write_all(STDOUT_FILENO, word);
-    io::print_decimal(STDOUT_FILENO, n);
+fn say<W: Write>(out: &mut W, word: &str, n: u64) -> io::Result<()> {
+    write!(out, "{word}{n}")
 }
 
-fn say_line(word: &[u8], n: u64) {
-    say(word, n);
-    io::write_all(STDOUT_FILENO, b"\n");
+fn say_line<W: Write>(out: &mut W, word: &str, n: u64) -> io::Result<()> {
+    writeln!(out, "{word}{n}")
 }
 
 fn wide(x: u32) -> u64 {
     x as u64
 }
 
-fn say_row(list: &[u32], i: usize) {
-    if i < list.len() {
-        say_line(b"row ", wide(list[i]));
+fn say_row<W: Write>(out: &mut W, list: &[u32], i: usize) -> io::Result<()> {
+    match list.get(i) {
+        Some(row) => say_line(out, "row ", wide(*row)),
+        None => Ok(()),
     }
 }
 
-fn say_rows(list: &[u32], rows: usize) {
-    let mut i = 0;
-    while i < rows {
-        say_row(list, i);
-        i += 1;
+fn say_rows<W: Write>(out: &mut W, list: &[u32], rows: usize) -> io::Result<()> {
+    for i in 0..rows {
+        say_row(out, list, i)?;
     }
+    Ok(())
 }
 
 // The last numbers of an answer's line, and its rows.
-fn say_found(list: &[u32], rows: usize, pages: u64) {
-    say(b" rows ", rows as u64);
-    say_line(b" pages ", pages);
-    say_rows(list, rows);
+fn say_found<W: Write>(out: &mut W, list: &[u32], rows: usize, pages: u64) -> io::Result<()> {
+    say(out, " rows ", rows as u64)?;
+    say_line(out, " pages ", pages)?;
+    say_rows(out, list, rows)
 }
 
-fn say_reply(reply: Reply, list: &[u32]) {
+fn say_reply<W: Write>(out: &mut W, reply: Reply, list: &[u32]) -> io::Result<()> {
     match reply {
-        Reply::Opened(blocks) => say_line(b"open ", blocks),
-        Reply::New(held) => say_line(b"new ", held),
-        Reply::Same(held) => say_line(b"same ", held),
+        Reply::Opened(blocks) => say_line(out, "open ", blocks),
+        Reply::New(held) => say_line(out, "new ", held),
+        Reply::Same(held) => say_line(out, "same ", held),
         Reply::Done { rows, pages } => {
-            io::write_all(STDOUT_FILENO, b"done");
-            say_found(list, rows, pages);
+            write!(out, "done")?;
+            say_found(out, list, rows, pages)
         }
         Reply::Wait { page, rows, pages } => {
-            say(b"wait page ", page as u64);
-            say_found(list, rows, pages);
+            say(out, "wait page ", page as u64)?;
+            say_found(out, list, rows, pages)
         }
-        Reply::Refused(fault) => say_line(b"refused ", fault.number as u64),
+        Reply::Refused(fault) => say_line(out, "refused ", fault.number as u64),
     }
 }
 
-fn stop(word: &[u8]) -> After
-    ensures { result ≡ After.Stop }
+fn stop<W: Write>(out: &mut W, word: &str) -> io::Result<After>
+    ensures { IfOk result (λ after. after ≡ After.Stop) }
 {
-    io::write_all(STDOUT_FILENO, word);
-    After::Stop
+    write!(out, "{word}")?;
+    Ok(After::Stop)
 }
 
-// Runs the command that a kind and the bytes of its body say, and answers it.
-fn answer(
+// Runs the command that a kind and the bytes of its body say, and answers it. An error in answering comes after the command.
+fn answer<W: Write>(
     intake: Intake,
+    out: &mut W,
     kind: u8,
     body: &[u8],
     image: &mut [u8],
     map: &mut [u64],
     list: &mut [u32],
-) -> After
-    ensures { state (len_next intake.len result) image.new map.new list.new
-        ≡ after_bytes (state intake.len image.old map.old list.old) (command_bytes kind body.now) }
+) -> io::Result<After>
+    ensures ok { IfOk result (λ after. state (len_next intake.len after) image.new map.new list.new
+        ≡ after_bytes (state intake.len image.old map.old list.old) (command_bytes kind body.now)) }
+    ensures err { OnErr result (LeftAfter (state intake.len image.old map.old list.old) (command_bytes kind body.now)
+        image.new map.new list.new) }
 {
     match desk_steps::decode(kind, body) {
         Decoded::Whole(command) => {
             let stepped = desk_steps::step(intake, command, body, image, map, list);
-            let reply = stepped.reply;
             let next = stepped.intake;
-            say_reply(reply, list);
-            After::Next(next)
+            say_reply(out, stepped.reply, list)?;
+            Ok(After::Next(next))
         }
-        Decoded::Unknown => stop(b"kind\n"),
-        Decoded::Cut => stop(b"cut\n"),
+        Decoded::Unknown => stop(out, "kind\n"),
+        Decoded::Cut => stop(out, "cut\n"),
     }
+}
+
+// Reads until the buffer is full or the input ends, and says how many bytes it read.
+fn read_full<R: Read>(input: &mut R, buf: &mut [u8]) -> io::Result<usize>
+    ensures { ReadsAtMost result buf.new }
+{
+    let mut done = 0;
+    for _ in 0..u64::MAX {
+        if done == buf.len() {
+            break;
+        }
+        match input.read(&mut buf[done..]) {
+            Ok(0) => break,
+            Ok(n) => done += n,
+            Err(e) => {
+                if e.kind() != ErrorKind::Interrupted {
+                    return Err(e);
+                }
+            }
+        }
+    }
+    Ok(done)
 }
 
 // Reads the body of a command of a kind, and says how much of it there is.
-fn read_body(fd: i32, kind: u8, body: &mut [u8]) -> usize
+fn read_body<R: Read>(input: &mut R, kind: u8, body: &mut [u8]) -> io::Result<usize>
     requires { body_size kind ≤ length body.old }
-    ensures { IsPrefixLen result body.new }
+    ensures { ReadsAtMost result body.new }
 {
     let size = desk_steps::body_size(kind);
-    io::read_full(fd, &mut body[..size])
+    read_full(input, &mut body[..size])
 }
 
 // Reads a command and runs it.
-fn turn(intake: Intake, fd: i32, image: &mut [u8], map: &mut [u64], list: &mut [u32]) -> After
-    ensures { Reached
+fn turn<R: Read, W: Write>(
+    intake: Intake,
+    input: &mut R,
+    out: &mut W,
+    image: &mut [u8],
+    map: &mut [u64],
+    list: &mut [u32],
+) -> io::Result<After>
+    ensures ok { IfOk result (λ after. Reached
         (state intake.len image.old map.old list.old)
-        (state (len_next intake.len result) image.new map.new list.new) }
+        (state (len_next intake.len after) image.new map.new list.new)) }
+    ensures err { OnErr result (Left (state intake.len image.old map.old list.old) image.new map.new list.new) }
 {
     let mut kind = [0u8; 1];
-    if io::read_full(fd, &mut kind) < 1 {
-        return After::Stop;
+    if read_full(input, &mut kind)? < 1 {
+        return Ok(After::Stop);
     }
     let mut body = [0u8; Command::LONGEST];
-    let count = read_body(fd, kind[0], &mut body);
-    answer(intake, kind[0], &body[..count], image, map, list)
+    let count = read_body(input, kind[0], &mut body)?;
+    answer(intake, out, kind[0], &body[..count], image, map, list)
 }
 
-// Runs the commands of a file descriptor until they end. A proved loop has to end, and nothing says that the input does:
-// it counts its turns down from a number that no run uses up.
-pub fn run(fd: i32, image: &mut [u8], map: &mut [u64], list: &mut [u32])
+// Runs the commands of a reader until they end. A proved loop has to end, and nothing says that the input does: it takes a
+// number of turns that no run uses up. Where a read or a write fails, the memory is as some of the commands left it too.
+pub fn run<R: Read, W: Write>(
+    input: &mut R,
+    out: &mut W,
+    image: &mut [u8],
+    map: &mut [u64],
+    list: &mut [u32],
+) -> io::Result<()>
     ensures { Ran image.old image.new map.old map.new list.old list.new }
 {
     let mut intake = Intake::new(0);
-    let mut turns = u64::MAX;
-    while 0 < turns {
-        match turn(intake, fd, image, map, list) {
+    for _ in 0..u64::MAX {
+        match turn(intake, input, out, image, map, list)? {
             After::Next(next) => {
                 intake = next;
             }
             After::Stop => {
-                return;
+                return Ok(());
             }
         }
-        turns -= 1;
     }
+    Ok(())
 }
