@@ -1,9 +1,17 @@
 // The desk program: commands from standard input, answers on standard output.
-use libc::STDIN_FILENO;
+#![tactic(auto)]
 
-fn main() {
+use std::io;
+
+fn main(rt: HostRuntime) -> io::Result<()> {
     let mut image = [0u8; 32768];
     let mut map = [0u64; 1];
     let mut list = [0u32; 1024];
-    desk_commands::run(STDIN_FILENO, &mut image, &mut map, &mut list);
+    desk_commands::run(
+        &mut rt.stdin(),
+        &mut rt.stdout(),
+        &mut image,
+        &mut map,
+        &mut list,
+    )
 }
