@@ -1,70 +1,90 @@
 // Runs the desk program's commands over stored inputs: one for each argument, each as a run of its own; then a delivery cut at every place.
-use desk_steps::Command;
-use libc::STDOUT_FILENO;
+#![tactic(auto)]
 
-fn say_path(path: &[u8]) {
-    io::write_all(STDOUT_FILENO, path);
-    io::write_all(STDOUT_FILENO, b":\n");
+use desk_steps::Command;
+use std::io::Read;
+use std::rt::{Env, Files};
+use std::{env, fs, io};
+
+fn say_path(rt: &impl Print, path: &str) -> io::Result<()> {
+    println!(rt; "{path}:")
 }
 
 // Reads n bytes and drops them.
-fn skip(fd: i32, n: usize) {
-    let mut byte = [0u8; 1];
-    let mut i = 0;
-    while i < n {
-        io::read_full(fd, &mut byte);
-        i += 1;
-    }
+fn skip<R: Read>(input: &mut R, n: usize) -> io::Result<()> {
+    io::copy(&mut input.take(n as u64), &mut io::sink())?;
+    Ok(())
 }
 
 // Runs an input without its first n bytes.
-fn run_rest(path: &[u8], n: usize, image: &mut [u8], map: &mut [u64], list: &mut [u32]) {
-    let fd = os::open_read(path);
-    if fd < 0 {
-        os::fail(path);
-        return;
-    }
-    skip(fd, n);
-    desk_commands::run(fd, image, map, list);
-    libc::close(fd);
-}
-
-fn run_file(path: &[u8], image: &mut [u8], map: &mut [u64], list: &mut [u32]) {
-    say_path(path);
-    run_rest(path, 0, image, map, list);
-}
-
-fn run_arg(i: usize, path: &mut [u8], image: &mut [u8], map: &mut [u64], list: &mut [u32]) {
-    let length = os::arg(i, path);
-    if length <= path.len() {
-        run_file(&path[..length], image, map, list);
+fn run_rest<R: Files + Print + Eprint>(
+    rt: &R,
+    path: &str,
+    n: usize,
+    image: &mut [u8],
+    map: &mut [u64],
+    list: &mut [u32],
+) -> io::Result<()> {
+    match fs::open(rt, path) {
+        Ok(mut file) => {
+            skip(&mut file, n)?;
+            desk_commands::run(&mut file, &mut io::writer(rt), image, map, list)
+        }
+        Err(e) => eprintln!(rt; "{path}: {e}"),
     }
 }
 
-fn run_args(path: &mut [u8], image: &mut [u8], map: &mut [u64], list: &mut [u32]) {
-    let count = os::arg_count();
-    let mut i = 1;
-    while i < count {
-        run_arg(i, path, image, map, list);
-        i += 1;
+fn run_file<R: Files + Print + Eprint>(
+    rt: &R,
+    path: &str,
+    image: &mut [u8],
+    map: &mut [u64],
+    list: &mut [u32],
+) -> io::Result<()> {
+    say_path(rt, path)?;
+    run_rest(rt, path, 0, image, map, list)
+}
+
+fn run_arg<R: Files + Print + Eprint>(
+    rt: &R,
+    path: String,
+    image: &mut [u8],
+    map: &mut [u64],
+    list: &mut [u32],
+) -> io::Result<()> {
+    run_file(rt, path.as_str(), image, map, list)
+}
+
+fn run_args<R: Env + Files + Print + Eprint + AllocGlobal>(
+    rt: &R,
+    image: &mut [u8],
+    map: &mut [u64],
+    list: &mut [u32],
+) -> io::Result<()> {
+    for path in env::args(rt)?.skip(1) {
+        run_arg(rt, path, image, map, list)?;
     }
+    Ok(())
 }
 
 // `cut_2` is a delivery without its last byte, and its bytes are all 2: without its first n it is a delivery cut elsewhere.
-fn run_cuts(image: &mut [u8], map: &mut [u64], list: &mut [u32]) {
-    say_path(b"cut_2");
-    let mut n = 0;
-    while n < Command::LONGEST {
-        run_rest(b"cut_2", n, image, map, list);
-        n += 1;
+fn run_cuts<R: Files + Print + Eprint>(
+    rt: &R,
+    image: &mut [u8],
+    map: &mut [u64],
+    list: &mut [u32],
+) -> io::Result<()> {
+    say_path(rt, "cut_2")?;
+    for n in 0..Command::LONGEST {
+        run_rest(rt, "cut_2", n, image, map, list)?;
     }
+    Ok(())
 }
 
-fn main() {
-    let mut path = io::buffer();
+fn main(rt: HostRuntime) -> io::Result<()> {
     let mut image = [0u8; 32768];
     let mut map = [0u64; 1];
     let mut list = [0u32; 1024];
-    run_args(&mut path, &mut image, &mut map, &mut list);
-    run_cuts(&mut image, &mut map, &mut list);
+    run_args(&rt, &mut image, &mut map, &mut list)?;
+    run_cuts(&rt, &mut image, &mut map, &mut list)
 }
