@@ -159,7 +159,8 @@ static void guards_hold(void)
 int main(void)
 {
     static void (*const parts[])(void) = {check_case_d,  check_packets, check_rows,  check_codes, check_fetching,
-                                          check_intakes, check_texts,   check_sizes, check_beats, check_cues};
+                                          check_intakes, check_texts,   check_sizes, check_beats, check_cues,
+                                          check_names};
     size_t i;
 
     for (i = 0; i < sizeof parts / sizeof parts[0]; i++) {

@@ -32,6 +32,7 @@ void check_texts(void);
 void check_sizes(void);
 void check_beats(void);
 void check_cues(void);
+void check_names(void);
 
 /* Fills image, map and list. */
 void fill(void);
