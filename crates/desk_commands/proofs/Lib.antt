@@ -5,3 +5,4 @@
 mod AfterBytes
 mod ReachedStates
 mod BodySizes
+mod KnownInput

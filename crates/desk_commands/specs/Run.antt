@@ -1,5 +1,5 @@
 -- Rules 9.5, 9.7 and 9.9: the desk program's state after the commands that it read, and what can be said of a run.
--- No contract says what is read from a file descriptor, so a run is that of some bytes.
+-- What can be said of a run where nothing is known of the bytes that its reader gives; where they are known, specs/Reading says it.
 use Rattle.std.specs.Prelude.{◌≡◌, List, [], ◌∷◌, ℕ}
 use Rattle.lists.specs.Alias.{Bytes, Words, Places}
 use Rattle.desk_steps.specs.Command.{Input, whole, unknown, cut, decoded}

@@ -1,12 +1,14 @@
 // The desk program: reads commands from a reader, runs each, and answers to a writer.
 #![tactic(auto)]
 
-ghost use Rattle.std.specs.Prelude.{◌≡◌, ◌≤◌, length, IfOk, OnErr};
+ghost use Rattle.std.specs.Prelude.{◌≡◌, ◌≤◌, ◌<◌, ◌^◌, length, take, IfOk, IfSome, OnOk, OnErr};
 ghost use Rattle.std.specs.Io.{ReadsAtMost};
-ghost use Rattle.desk_steps.specs.Command.{body_size};
+ghost use Rattle.std.specs.Io.KnownBytes.{Consumes, IsAtEnd};
+ghost use Rattle.desk_steps.specs.Command.{body_size, decoded};
 ghost use Rattle.desk_steps.specs.State.{state};
 ghost use Rattle.desk_commands.specs.Run.{Reached, Ran, command_bytes, after_bytes};
-ghost use Rattle.desk_commands.specs.Private.{len_next, Left, LeftAfter};
+ghost use Rattle.desk_commands.specs.Reading.{RanAll};
+ghost use Rattle.desk_commands.specs.Private.{len_next, Left, LeftAfter, Follows, Turned, Fills};
 
 use desk_steps::{Command, Decoded, Reply};
 use intake::Intake;
@@ -91,6 +93,7 @@ fn answer<W: Write>(
         ≡ after_bytes (state intake.len image.old map.old list.old) (command_bytes kind body.now)) }
     ensures err { OnErr result (LeftAfter (state intake.len image.old map.old list.old) (command_bytes kind body.now)
         image.new map.new list.new) }
+    ensures next { IfOk result (λ after. Follows after (decoded kind body.now)) }
 {
     match desk_steps::decode(kind, body) {
         Decoded::Whole(command) => {
@@ -106,15 +109,16 @@ fn answer<W: Write>(
 
 // Reads until the buffer is full or the input ends, and says how many bytes it read.
 fn read_full<R: Read>(input: &mut R, buf: &mut [u8]) -> io::Result<usize>
-    ensures { ReadsAtMost result buf.new }
+    ensures bound { ReadsAtMost result buf.new }
+    ensures bytes { Fills (R.remaining input.old) (R.remaining input.new) result buf.new }
 {
     let mut done = 0;
     for _ in 0..u64::MAX {
         if done == buf.len() {
-            break;
+            return Ok(done);
         }
         match input.read(&mut buf[done..]) {
-            Ok(0) => break,
+            Ok(0) => return Ok(done),
             Ok(n) => done += n,
             Err(e) => {
                 if e.kind() != ErrorKind::Interrupted {
@@ -123,13 +127,16 @@ fn read_full<R: Read>(input: &mut R, buf: &mut [u8]) -> io::Result<usize>
             }
         }
     }
-    Ok(done)
+    Err(io::Error::from(ErrorKind::Interrupted))
 }
 
 // Reads the body of a command of a kind, and says how much of it there is.
 fn read_body<R: Read>(input: &mut R, kind: u8, body: &mut [u8]) -> io::Result<usize>
     requires { body_size kind ≤ length body.old }
-    ensures { ReadsAtMost result body.new }
+    ensures bound { ReadsAtMost result body.new }
+    ensures few { IfOk result (λ n. n ≤ body_size kind) }
+    ensures bytes { IfOk result (λ n. Consumes (R.remaining input.old) (R.remaining input.new) (take n body.new)
+        × (n < body_size kind → IsAtEnd (R.remaining input.new))) }
 {
     let size = desk_steps::body_size(kind);
     read_full(input, &mut body[..size])
@@ -148,6 +155,10 @@ fn turn<R: Read, W: Write>(
         (state intake.len image.old map.old list.old)
         (state (len_next intake.len after) image.new map.new list.new)) }
     ensures err { OnErr result (Left (state intake.len image.old map.old list.old) image.new map.new list.new) }
+    ensures read { IfOk result (λ after. Turned after
+        (state intake.len image.old map.old list.old)
+        (state (len_next intake.len after) image.new map.new list.new)
+        (R.remaining input.old) (R.remaining input.new)) }
 {
     let mut kind = [0u8; 1];
     if read_full(input, &mut kind)? < 1 {
@@ -167,7 +178,9 @@ pub fn run<R: Read, W: Write>(
     map: &mut [u64],
     list: &mut [u32],
 ) -> io::Result<()>
-    ensures { Ran image.old image.new map.old map.new list.old list.new }
+    ensures some { Ran image.old image.new map.old map.new list.old list.new }
+    ensures all { OnOk result (IfSome (R.remaining input.old) (λ bytes. length bytes < 2 ^ 64
+        → RanAll bytes image.old image.new map.old map.new list.old list.new)) }
 {
     let mut intake = Intake::new(0);
     for _ in 0..u64::MAX {

@@ -6,7 +6,7 @@ use crate::model::Table;
 use crate::schedule::Call;
 
 impl Planner<'_> {
-    /// Sometimes questions about buffers of no bytes, which every run is lent first.
+    /// Sometimes questions about buffers of no bytes, which every run begins with.
     pub(super) fn ask_without_buffers(&mut self) {
         if self.fetch_rng.chance(1, 8) {
             self.calls.push(Call::Lend { image: 0, words: 0 });
