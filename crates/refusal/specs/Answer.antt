@@ -1,7 +1,9 @@
 -- Rules 2.1 to 2.19, 2.29: an answer is what was asked for, or a refusal; the first rule that applies answers.
-use Rattle.std.specs.Prelude.{Bool, cond}
+use Rattle.std.specs.Prelude.{Bool, cond, Result, Ok, Err}
 use Rattle.std.proofs.Math.Option.{Option, none, some}
+use Rattle.refusal.specs.Fault.{fault_of}
 use Rattle.refusal.specs.declared.Fault.{Fault}
+use Rattle.refusal.specs.declared.Refusal.{Refusal}
 
 pub data Answer (A : Type 0) : Type 0 where
   given : A → Answer A
@@ -20,3 +22,13 @@ and_then (refused fault) rest = refused fault
 abbrev pub fault_in : {A : Type 0} → Answer A → Option Fault
 fault_in (given x) = none
 fault_in (refused fault) = some fault
+
+-- the answer that a result of the code stands for; value gives what a good result stands for
+abbrev pub answer_as : {A B : Type 0} (value : A → B) → Result A Refusal → Answer B
+answer_as value (Ok x) = given (value x)
+answer_as value (Err refusal) = refused (fault_of refusal)
+
+-- the same where a good result stands for itself
+abbrev pub answer_of : {A : Type 0} → Result A Refusal → Answer A
+answer_of (Ok x) = given x
+answer_of (Err refusal) = refused (fault_of refusal)

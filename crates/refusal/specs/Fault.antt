@@ -1,5 +1,5 @@
 -- Rules 2.1 to 2.21, 2.32: each refusal's number and what it carries.
-use Rattle.std.specs.Prelude.{ℕ}
+use Rattle.std.specs.Prelude.{◌≡◌, ℕ}
 use Rattle.refusal.specs.declared.Fault.{Fault}
 use Rattle.refusal.specs.declared.Refusal.{Refusal}
 use Rattle.refusal.specs.declared.Refusal.TheVariants.{Length, ImageShort, MapShort, MapSpare, BlockNumber, PieceSize, BlockDiffers, TableType}
@@ -35,3 +35,7 @@ fault_of (ListShort needed) = fault 17 needed
 fault_of NoRow = fault 18 0
 fault_of NoSlot = fault 19 0
 fault_of (PageType page) = fault 25 page
+
+-- what the conversion of a refusal gives
+abbrev pub FaultOf : Refusal → Fault → Type 0
+FaultOf refusal f = f ≡ fault_of refusal

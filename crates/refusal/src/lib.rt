@@ -2,10 +2,10 @@
 #![tactic(auto)]
 
 ghost use Rattle.std.specs.Prelude.{◌≡◌};
-ghost use Rattle.refusal.specs.Fault.{fault, fault_at, fault_of};
+ghost use Rattle.refusal.specs.Fault.{fault, fault_at, FaultOf};
 
 // A refusal's number and what it carries, a value and an index entry, 0 where it carries nothing.
-#[derive(Drop)]
+#[derive(Clone, Copy, Debug, PartialEq, Eq)]
 pub struct Fault {
     pub number: u32,
     pub value: u64,
@@ -13,7 +13,7 @@ pub struct Fault {
 }
 
 // The refusals, in the order of their numbers, with what each carries.
-#[derive(Drop)]
+#[derive(Clone, Copy, Debug, PartialEq, Eq)]
 pub enum Refusal {
     Length,
     ImageShort,
@@ -61,11 +61,12 @@ fn at_entry(number: u32, page: u32, entry: u16) -> Fault
     }
 }
 
-impl Refusal {
-    pub fn fault(self) -> Fault
-        ensures { result ≡ fault_of self }
-    {
-        match self {
+// The number of a refusal and what it carries.
+impl From<Refusal> for Fault {
+    ghost from_gives = { FaultOf };
+
+    fn from(refusal: Refusal) -> Self {
+        match refusal {
             Refusal::Length => numbered(1, 0),
             Refusal::ImageShort => numbered(2, 0),
             Refusal::MapShort => numbered(3, 0),

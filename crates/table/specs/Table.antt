@@ -1,11 +1,10 @@
 -- Rules 1.1, 2.8, 5.15, 6.11: the ten tables, their numbers and their string slots.
-use Rattle.std.specs.Prelude.{Bool, cond, ◌&&◌, ℕ, eqb}
-use Rattle.refusal.specs.Fault.{fault, fault_of}
-use Rattle.refusal.specs.Answer.{Answer, given, refused}
+use Rattle.std.specs.Prelude.{◌≡◌, Bool, cond, ◌&&◌, ℕ, eqb, Result}
+use Rattle.refusal.specs.Fault.{fault}
+use Rattle.refusal.specs.Answer.{Answer, given, refused, answer_of}
+use Rattle.refusal.specs.declared.Refusal.{Refusal}
 use Rattle.table.specs.declared.Table.{Table}
 use Rattle.table.specs.declared.Table.TheVariants.{Tracks, Genres, Artists, Albums, Labels, Keys, Colors, PlaylistTree, PlaylistEntries, Artwork}
-use Rattle.table.specs.declared.TableReply.{TableReply}
-use Rattle.table.specs.declared.TableReply.TheVariants.{Known, Refused}
 
 abbrev pub table_number : Table → ℕ
 table_number Tracks = 0
@@ -18,6 +17,10 @@ table_number Colors = 6
 table_number PlaylistTree = 7
 table_number PlaylistEntries = 8
 table_number Artwork = 13
+
+-- what the conversion of a table gives
+abbrev pub NumberOf : Table → ℕ → Type 0
+NumberOf table n = n ≡ table_number table
 
 -- Rules 1.1, 2.8: the table of a number; 8 where it names none of the ten.
 unfoldable pub table_of : ℕ → Answer Table
@@ -34,10 +37,9 @@ table_of n =
     (cond (eqb n 13) (given Artwork)
     (refused (fault 8 0)))))))))))
 
--- the answer for each case of the code's enum
-abbrev pub table_reply_of : TableReply → Answer Table
-table_reply_of (Known table) = given table
-table_reply_of (Refused refusal) = refused (fault_of refusal)
+-- what the conversion of a number gives, in which 8 stands for every number that names no table
+abbrev pub TableOf : ℕ → Result Table Refusal → Type 0
+TableOf n res = answer_of res ≡ table_of n
 
 -- Rule 5.15: the number of string slots.
 abbrev pub slot_count : Table → ℕ

@@ -2,11 +2,11 @@
 #![tactic(auto)]
 
 ghost use Rattle.std.specs.Prelude.{◌≡◌};
-ghost use Rattle.table.specs.Table.{table_number, table_of, slot_count, table_reply_of, holds_codes};
+ghost use Rattle.table.specs.Table.{NumberOf, TableOf, slot_count, holds_codes};
 
 use refusal::Refusal;
 
-#[derive(Clone, Copy)]
+#[derive(Clone, Copy, Debug, PartialEq, Eq)]
 pub enum Table {
     Tracks,
     Genres,
@@ -20,37 +20,35 @@ pub enum Table {
     Artwork,
 }
 
-// What a table type's number names.
-#[derive(Drop)]
-pub enum TableReply {
-    Known(Table),
-    Refused(Refusal),
-}
+// The table of a type's number.
+impl TryFrom<u32> for Table {
+    type Error = Refusal;
 
-impl Table {
-    // The table of a type's number.
-    pub fn new(number: u32) -> TableReply
-        ensures { table_reply_of result ≡ table_of number }
-    {
+    ghost try_from_gives = { TableOf };
+
+    fn try_from(number: u32) -> Result<Self, Refusal> {
         match number {
-            0 => TableReply::Known(Table::Tracks),
-            1 => TableReply::Known(Table::Genres),
-            2 => TableReply::Known(Table::Artists),
-            3 => TableReply::Known(Table::Albums),
-            4 => TableReply::Known(Table::Labels),
-            5 => TableReply::Known(Table::Keys),
-            6 => TableReply::Known(Table::Colors),
-            7 => TableReply::Known(Table::PlaylistTree),
-            8 => TableReply::Known(Table::PlaylistEntries),
-            13 => TableReply::Known(Table::Artwork),
-            _ => TableReply::Refused(Refusal::TableType),
+            0 => Ok(Table::Tracks),
+            1 => Ok(Table::Genres),
+            2 => Ok(Table::Artists),
+            3 => Ok(Table::Albums),
+            4 => Ok(Table::Labels),
+            5 => Ok(Table::Keys),
+            6 => Ok(Table::Colors),
+            7 => Ok(Table::PlaylistTree),
+            8 => Ok(Table::PlaylistEntries),
+            13 => Ok(Table::Artwork),
+            _ => Err(Refusal::TableType),
         }
     }
+}
 
-    pub fn number(self) -> u32
-        ensures { result ≡ table_number self }
-    {
-        match self {
+// The number of a table's type.
+impl From<Table> for u32 {
+    ghost from_gives = { NumberOf };
+
+    fn from(table: Table) -> Self {
+        match table {
             Table::Tracks => 0,
             Table::Genres => 1,
             Table::Artists => 2,
@@ -63,7 +61,9 @@ impl Table {
             Table::Artwork => 13,
         }
     }
+}
 
+impl Table {
     // How many string slots the table's rows have.
     pub fn slots(self) -> usize
         ensures { result ≡ slot_count self }
@@ -81,6 +81,7 @@ impl Table {
             Table::Artwork => 1,
         }
     }
+
     // Whether a string slot may hold recording codes.
     pub fn holds_codes(self, slot: usize) -> bool
         ensures { result ≡ holds_codes self slot }

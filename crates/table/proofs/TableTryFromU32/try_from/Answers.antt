@@ -1,8 +1,8 @@
--- `table::Table::new` meets its contract: each arm's number chooses its case of `table_of`, and any other number none.
+-- `table::TableTryFromU32::try_from` meets its contract: each arm's number chooses its case of `table_of`, and any other number none.
 use Rattle.table.specs.Table.{table_of}
 use borrow.Author.Rules.{rules}
 use Rattle.lists.proofs.Choice.{tests}
-use Rattle.table.proofs.Table.new.Goals as goal
+use Rattle.table.proofs.TableTryFromU32.try_from.Goals as goal
 
 pub returns-in-0 : goal.returns-in-0
 unfolding table_of
