@@ -93,14 +93,7 @@ fn allowed_tables(n: u32) -> bool
 fn has_type(block: &[u8], n: u32, t: u32) -> bool
     ensures { result ≡ has_type block.now n t }
 {
-    let mut i: u32 = 0;
-    while i < n {
-        if type_at(block, i) == t {
-            return true;
-        }
-        i += 1;
-    }
-    false
+    (0..n).any(|i| type_at(block, i) == t)
 }
 
 // The word with the bit of type t set; only a type below 64 has one.
@@ -127,14 +120,12 @@ fn has_type_twice(block: &[u8], n: u32) -> bool
     ensures { result ≡ type_twice block.now n }
 {
     let mut seen: u64 = 0;
-    let mut i: u32 = 0;
-    while i < n {
+    for i in 0..n {
         let t = type_at(block, i);
         if has_type_in(block, i, seen, t) {
             return true;
         }
         seen = with_type(seen, t);
-        i += 1;
     }
     false
 }
@@ -170,11 +161,8 @@ fn keep(block: &[u8], n: u32) -> [Pointer; 30]
 {
     let blank = no_pointer();
     let mut all = [blank; 30];
-    let mut i: u32 = 0;
-    while i < n {
-        let at = i as usize;
-        all[at] = pointer_at(block, i);
-        i += 1;
+    for i in 0..n {
+        all[i as usize] = pointer_at(block, i);
     }
     all
 }
@@ -212,21 +200,6 @@ fn linked_chain(d: Directory, p: Pointer) -> Result<Chain, Refusal>
     })
 }
 
-fn find(pointers: [Pointer; 30], count: u32, t: u32) -> Result<Pointer, Refusal>
-    ensures { answer_of result ≡ pointer_among t (take count pointers) }
-{
-    let mut i: usize = 0;
-    let n = if count < 30 { count as usize } else { 30 };
-    while i < n {
-        let p = pointers[i];
-        if p.table_type == t {
-            return Ok(p);
-        }
-        i += 1;
-    }
-    Err(Refusal::NoPointer)
-}
-
 impl Directory {
     // The directory of a file of len bytes, from its block 0; none where the header is broken.
     pub fn read(block: &[u8], len: u64) -> Option<Directory>
@@ -252,11 +225,23 @@ impl Directory {
         }
     }
 
+    // The first of the pointers in use that has type t.
+    fn find(&self, t: u32) -> Result<Pointer, Refusal>
+        ensures { answer_of result ≡ pointer_among t (take self.now.count self.now.pointers) }
+    {
+        self.pointers
+            .iter()
+            .take(self.count as usize)
+            .find(|pointer| pointer.table_type == t)
+            .copied()
+            .ok_or(Refusal::NoPointer)
+    }
+
     // The chain of a table, whose first and last page are inside the file.
     pub fn chain(self, table: Table) -> Result<Chain, Refusal>
         ensures { answer_of result ≡ chain_in self table }
     {
-        let pointer = find(self.pointers, self.count, u32::from(table))?;
+        let pointer = self.find(u32::from(table))?;
         linked_chain(self, pointer)
     }
 }
