@@ -1,16 +1,16 @@
 // The cues of an ANLZ file: one cue, counted through all its cue lists.
 #![tactic(auto)]
 
-ghost use Rattle.std.specs.Prelude.{◌≡◌, ◌≤◌, length};
+ghost use Rattle.std.specs.Prelude.{◌≡◌};
 ghost use Rattle.anlz.specs.Fault.{anlz_answer_of};
 ghost use Rattle.entries.specs.Entries.{entries};
 ghost use Rattle.entries.specs.Every.{every_entry};
 ghost use Rattle.cue_list.specs.Cue.{cue_size, cue_holds, position_of, cue_of};
 ghost use Rattle.cue_list.specs.CueList.{len_cues, list_type_of, list_holds};
 ghost use Rattle.cue_list.specs.Questions.{ask_cue};
-ghost use Rattle.cue_list.specs.Private.{passed, searched, searched_section, ended, cue_from};
+ghost use Rattle.cue_list.specs.Private.{passed, searched, searched_section, ended};
 
-use anlz::{AnlzRefusal, Cursor, Section};
+use anlz::{AnlzRefusal, Section, Sections};
 use entries::Entries;
 
 // The code of a section that holds a cue list.
@@ -203,32 +203,14 @@ fn search_section(search: Search, file: &[u8], section: Section) -> Search
     }
 }
 
-// Cue k of the lists from a place in the file on.
-fn cue_from(place: usize, file: &[u8], k: u64) -> Result<Cue, AnlzRefusal>
-    requires { place ≤ length file.now }
-    ensures { anlz_answer_of result ≡ cue_from file.now place k }
-{
-    let mut at = place;
-    let mut search = Search::Left(k);
-    while at < file.len() {
-        let cursor = Cursor { place: at };
-        match cursor.step(file)? {
-            None => {
-                return end(search);
-            }
-            Some(section) => {
-                search = search_section(search, file, section);
-                at = section.end;
-            }
-        }
-    }
-    end(search)
-}
-
 // Cue k of an ANLZ file, from 0, counted through all its cue lists. Every list is judged, also behind the one with cue k.
 pub fn cue_at(file: &[u8], k: u64) -> Result<Cue, AnlzRefusal>
     ensures { anlz_answer_of result ≡ ask_cue file.now k }
 {
-    let cursor = Cursor::start(file)?;
-    cue_from(cursor.place, file, k)
+    let mut search = Search::Left(k);
+    for next in Sections::of(file)? {
+        let section = next?;
+        search = search_section(search, file, section);
+    }
+    end(search)
 }
