@@ -2,10 +2,6 @@
 use Rattle.std.specs.Prelude.{cond, ℕ, eqb, Option, None, Some}
 use Rattle.anlz.specs.declared.Section.{Section}
 
--- what was found before, else this
-abbrev pub or_else : Option Section → Option Section → Option Section
-or_else None next = next
-or_else (Some section) next = Some section
-
+-- the section, if it has the code
 abbrev pub if_code : (code : ℕ) → Section → Option Section
 if_code code section = cond (eqb section.code code) (Some section) None

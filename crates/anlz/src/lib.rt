@@ -2,13 +2,14 @@
 #![tactic(auto)]
 
 ghost use Rattle.std.specs.Prelude.{◌≡◌, ◌-◌, ◌≤◌, length, IfOk};
+ghost use Rattle.std.specs.Option.{option_or};
 ghost use Rattle.std.specs.Iterator.{at_most};
 ghost use Rattle.anlz.specs.Fault.{AnlzNumberOf, anlz_answer_as, anlz_answer_of};
 ghost use Rattle.anlz.specs.Header.{header_holds};
 ghost use Rattle.anlz.specs.Section.{section_holds, tag_of};
 ghost use Rattle.anlz.specs.Sections.{next_section, first_place, place_of, NextSection};
 ghost use Rattle.anlz.specs.First.{first_section};
-ghost use Rattle.anlz.specs.Private.{or_else, if_code};
+ghost use Rattle.anlz.specs.Private.{if_code};
 
 // The code that an ANLZ file starts with.
 const PMAI: u32 = 0x504d_4149;
@@ -178,7 +179,7 @@ impl<'a> Iterator for Sections<'a> {
 
 // The section found before, else this one if it has the code.
 fn keep(first: Option<Section>, section: Section, code: u32) -> Option<Section>
-    ensures { result ≡ or_else first (if_code code section) }
+    ensures { result ≡ option_or first (if_code code section) }
 {
     first.or((section.code == code).then_some(section))
 }
