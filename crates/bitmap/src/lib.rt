@@ -1,8 +1,7 @@
 // The map of a file: a bit for each block, in 64-bit words (rules 1.7 to 1.9, 1.17 and 2.4).
 #![tactic(auto)]
 
-ghost use Rattle.std.specs.Prelude.{◌≡◌, ◌*◌, ◌<◌, ◌≤◌, ◌^◌, length};
-ghost use Rattle.std.specs.Int.Count.{ones};
+ghost use Rattle.std.specs.Prelude.{◌≡◌, ◌<◌, ◌^◌, length};
 ghost use Rattle.bitmap.specs.Words.{block_count, word_count};
 ghost use Rattle.bitmap.specs.Bit.{word_at, bit};
 ghost use Rattle.bitmap.specs.Count.{ones_in, held_count};
@@ -21,7 +20,7 @@ pub fn block_count(len: u64) -> u64
 pub fn word_count(len: u64) -> u64
     ensures { result ≡ word_count len }
 {
-    (block_count(len) + 63) / 64
+    block_count(len).div_ceil(64)
 }
 
 // A word of the map, 0 past its end.
