@@ -8,6 +8,7 @@ use mathlib.Core.List.{List, ◌++◌}
 use Prim.Native.Nat.{ℕ, ◌≤◌}
 use lib.ListN.{length, drop, replicate, length-replicate}
 use lib.Seq.{drop_at}
+use Rattle.std.specs.Prelude.{Ok}
 use Rattle.lists.proofs.Choice.{never}
 use Rattle.refusal.specs.declared.Fault.{Fault}
 use Rattle.refusal.specs.Answer.{Answer, given, refused, fault_in}
@@ -15,7 +16,6 @@ use Rattle.bitmap.specs.Words.{block_count, word_count}
 use Rattle.intake.specs.Check.{check_lengths}
 use Rattle.intake.specs.Open.{OpenedFile, opened, opening_of, open_answer, opening, cleared}
 use Rattle.intake.specs.declared.Intake.{Intake}
-use Rattle.intake.specs.declared.Opened.TheVariants.{Open}
 use Rattle.intake.proofs.RulesPassed.{Accepted, lengths_given, lengths_pass, lengths_refused}
 
 module _ (len : ℕ) (image map : List ℕ) where
@@ -42,7 +42,7 @@ module _ (len : ℕ) (image map : List ℕ) where
     words_inside e = rw e (lengths_given len image map sound).0.map_long
 
     pub open_given : {intake : Intake} {blocks words : ℕ} {after : List ℕ} → intake.len ≡ len → blocks ≡ block_count len → words ≡ word_count len
-        → after ≡ replicate words 0 ++ drop words map → opening_of (Open intake blocks) after ≡ opening len image map
+        → after ≡ replicate words 0 ++ drop words map → opening_of (Ok (record { intake = intake; blocks = blocks })) after ≡ opening len image map
     unfolding cleared
     open_given i b w f = rw (opens (lengths_given len image map sound).0, f, i, b, w)
 

@@ -2,10 +2,9 @@
 --     block_inside                                 a block of the file lies inside the image
 --     call_refuses, number_refused, size_refused, bytes_refused, is_same, is_new    the verdict in each case
 --     passed, new_absent                           what is known where it is not a refusal, and where it is New
---     new_passed, new_judged, same_judged, refused_judged      the verdict with what it leaves, from what the calls of `take_block` give
---     refused_outcome, counted_outcome                         the whole delivery, from what the calls of `deliver` give
+--     refused_outcome, counted_outcome             the whole delivery, from what the calls of `deliver` give
 -- Rests on refusals 1 to 4 (proofs/RulesPassed).
-use mathlib.Core.Path.{◌≡◌, sym, ap, ◌∙◌}
+use mathlib.Core.Path.{◌≡◌, ◌∙◌}
 use mathlib.Core.Bool.{true, false}
 use mathlib.Core.List.{List}
 use Prim.Native.Nat.{ℕ, ◌+◌, ◌*◌, ◌<◌, ◌≤◌}
@@ -15,18 +14,15 @@ use borrow.Author.Tests.{le-leb, lt-leb, eq-eqb, ne_eqb, leb-false, eqb-true, no
 use Rattle.lists.proofs.Choice.{on, never}
 use Rattle.format.specs.Size.{block_size}
 use Rattle.refusal.specs.declared.Fault.{Fault}
-use Rattle.refusal.specs.declared.Refusal.{Refusal}
-use Rattle.refusal.specs.Fault.{fault, fault_of}
+use Rattle.refusal.specs.Fault.{fault}
 use Rattle.refusal.specs.Answer.{Answer, given, refused}
 use Rattle.bitmap.specs.Words.{block_count}
 use Rattle.bitmap.specs.Bit.{bit}
 use Rattle.intake.specs.Memory.{Memory, block_at}
 use Rattle.intake.specs.Check.{check_call}
 use Rattle.intake.specs.Equal.{equal}
-use Rattle.intake.specs.Deliver.{Verdict, new, same, verdict, stored, Judgement, judgement, judged, Taken, with_count, outcome, delivery}
-use Rattle.intake.specs.Private.{Sound, judged_of}
-use Rattle.intake.specs.declared.Judged.{Judged}
-use Rattle.intake.specs.declared.Judged.TheVariants.{New, Same, Refused}
+use Rattle.intake.specs.Deliver.{Verdict, new, same, verdict, Judgement, judged, Taken, with_count, outcome, delivery}
+use Rattle.intake.specs.Private.{Sound}
 use Rattle.intake.proofs.RulesPassed.{rule_passed, call_passes, call_refused, call_given, sound_accepted}
 
 pub block_inside : (len : ℕ) (m : Memory) (block : ℕ) → Sound len m → block < block_count len → block * block_size + block_size ≤ length m.image
@@ -85,20 +81,6 @@ module _ (len : ℕ) (m : Memory) (block : ℕ) (piece : List ℕ) where
       (λ q. let other = bytes_refused p.sound p.inside p.sized b q in
       never (cc)))
       (λ b. b)
-
-  -- the verdict with what it leaves, from what the calls of `take_block` give
-  module _ {r : Judged} (found : judged_of r ≡ verdict len m block piece) where
-    pub new_passed : r ≡ New → Passed
-    new_passed told = passed (sym found ∙ ap judged_of told)
-
-    pub new_judged : {after : Memory} → r ≡ New → after ≡ stored m block piece → judgement (given new) after ≡ judged len m block piece
-    new_judged told a = rw (← found, told, a)
-
-    pub same_judged : r ≡ Same → judgement (given same) m ≡ judged len m block piece
-    same_judged told = rw (← found, told)
-
-    pub refused_judged : {refusal : Refusal} → r ≡ Refused refusal → judgement (refused (fault_of refusal)) m ≡ judged len m block piece
-    refused_judged told = rw (← found, told)
 
   -- the delivery, from what the calls of `deliver` give
   pub refused_outcome : {f : Fault} → check_call {A = Unit} len m (given tt) ≡ refused f → outcome (refused f) m ≡ delivery len m block piece

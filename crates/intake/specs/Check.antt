@@ -1,14 +1,12 @@
 -- Rules 2.1 to 2.4, with which a call begins; `rest` is what answers where none of them does.
 use Rattle.std.specs.Prelude.{not, ℕ, length, ltb}
 use Rattle.lists.specs.Alias.{Bytes, Words}
-use Rattle.refusal.specs.Answer.{Answer, given, refused, refuse_if}
-use Rattle.refusal.specs.Fault.{fault, fault_of}
+use Rattle.refusal.specs.Answer.{Answer, refuse_if}
+use Rattle.refusal.specs.Fault.{fault}
 use Rattle.bitmap.specs.Words.{word_count}
 use Rattle.bitmap.specs.Spare.{spare_bit}
 use Rattle.intake.specs.Length.{allowed_length}
 use Rattle.intake.specs.Memory.{Memory}
-use Rattle.intake.specs.declared.Checked.{Checked}
-use Rattle.intake.specs.declared.Checked.TheVariants.{Sound, Refused}
 
 -- Rule 2.26: 1, 2, 3
 unfoldable pub check_lengths : {A : Type 0} (len : ℕ) (image : Bytes) (map : Words) (rest : Answer A) → Answer A
@@ -24,8 +22,3 @@ check_call len m rest =
     check_lengths len m.image m.map
     (refuse_if (spare_bit len m.map) (fault 4 0)
     rest)
-
--- the answer for each case of the code's enum
-abbrev pub checked_of : Checked → Answer Unit
-checked_of Sound = given tt
-checked_of (Refused refusal) = refused (fault_of refusal)

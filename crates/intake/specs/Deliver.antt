@@ -1,9 +1,10 @@
 -- Rules 1.12 to 1.16: delivery. The verdict comes first, with what it does to image and map, then the held count.
-use Rattle.std.specs.Prelude.{cond, not, ℕ, length, eqb, leb}
+use Rattle.std.specs.Prelude.{cond, not, ℕ, length, eqb, leb, Result}
 use Rattle.lists.specs.Alias.{Bytes, Words}
 use Rattle.format.specs.Size.{block_size}
-use Rattle.refusal.specs.Answer.{Answer, given, refused, refuse_if, and_then}
-use Rattle.refusal.specs.Fault.{fault, fault_of}
+use Rattle.refusal.specs.Answer.{Answer, given, refused, refuse_if, and_then, answer_as}
+use Rattle.refusal.specs.Fault.{fault}
+use Rattle.refusal.specs.declared.Refusal.{Refusal}
 use Rattle.bitmap.specs.Words.{block_count}
 use Rattle.bitmap.specs.Bit.{bit, with_bit}
 use Rattle.bitmap.specs.Count.{held_count}
@@ -11,7 +12,7 @@ use Rattle.intake.specs.Memory.{Memory, memory, block_at, with_block}
 use Rattle.intake.specs.Check.{check_call}
 use Rattle.intake.specs.Equal.{equal}
 use Rattle.intake.specs.declared.Delivered.{Delivered}
-use Rattle.intake.specs.declared.Delivered.TheVariants.{New, Same, Refused}
+use Rattle.intake.specs.declared.Delivered.TheVariants.{New, Same}
 
 -- what a delivery is given besides the record and both buffers
 pub record Delivery : Type 0 where
@@ -65,11 +66,13 @@ pub data Taken : Type 0 where
 abbrev pub with_count : (len : ℕ) (map : Words) (v : Answer Verdict) → Answer Taken
 with_count len map v = and_then v (λ (x : Verdict). given (taken x (held_count len map)))
 
--- the answer for each case of the code's enum
-abbrev pub delivered_of : Delivered → Answer Taken
-delivered_of (New count) = given (taken new count)
-delivered_of (Same count) = given (taken same count)
-delivered_of (Refused refusal) = refused (fault_of refusal)
+-- the answer that the code's result stands for
+abbrev pub taken_of : Delivered → Taken
+taken_of (New count) = taken new count
+taken_of (Same count) = taken same count
+
+abbrev pub delivered_of : Result Delivered Refusal → Answer Taken
+delivered_of r = answer_as taken_of r
 
 -- the answer, and both buffers afterwards
 pub record Outcome : Type 0 where
@@ -79,7 +82,7 @@ pub record Outcome : Type 0 where
 abbrev pub outcome : Answer Taken → Memory → Outcome
 outcome answer m = record { answer = answer; memory = m }
 
-abbrev pub outcome_of : (r : Delivered) (image : Bytes) (map : Words) → Outcome
+abbrev pub outcome_of : (r : Result Delivered Refusal) (image : Bytes) (map : Words) → Outcome
 outcome_of r image map = outcome (delivered_of r) (memory image map)
 
 -- a delivery is a verdict and then a count

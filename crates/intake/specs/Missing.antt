@@ -1,12 +1,10 @@
 -- Rules 1.23 and 1.24: the blocks of a file that are held, and the first that is not.
-use Rattle.std.specs.Prelude.{Bool, ◌&&◌, not, ℕ, ◌-◌, ltb}
+use Rattle.std.specs.Prelude.{Bool, ◌&&◌, not, ℕ, ◌-◌, ltb, Option as CodeOption, Some, None}
 use Rattle.std.proofs.Math.Option.{Option, none, some}
 use Rattle.lists.specs.Alias.{Words}
 use Rattle.lists.specs.First.{first_from}
 use Rattle.bitmap.specs.Words.{block_count}
 use Rattle.bitmap.specs.Bit.{bit}
-use Rattle.intake.specs.declared.Missing.{Missing}
-use Rattle.intake.specs.declared.Missing.TheVariants.{Block, None}
 
 -- Rule 1.23: the file has the block, and its bit is one
 unfoldable pub held : (len : ℕ) (map : Words) (block : ℕ) → Bool
@@ -16,7 +14,7 @@ held len map block = ltb block (block_count len) && bit map block
 unfoldable pub next_missing : (len : ℕ) (map : Words) (from : ℕ) → Option ℕ
 next_missing len map from = first_from (λ (b : ℕ). not (bit map b)) (block_count len - from) from
 
--- the answer for each case of the code's enum
-abbrev pub missing_of : Missing → Option ℕ
-missing_of (Block b) = some b
+-- the answer for each case of the code's option
+abbrev pub missing_of : CodeOption ℕ → Option ℕ
+missing_of (Some b) = some b
 missing_of None = none

@@ -1,12 +1,11 @@
 -- Rule 1.11: opening, refused as rule 2.26 says.
-use Rattle.std.specs.Prelude.{◌++◌, ℕ, drop, replicate}
+use Rattle.std.specs.Prelude.{◌++◌, ℕ, drop, replicate, Result}
 use Rattle.lists.specs.Alias.{Bytes, Words}
-use Rattle.refusal.specs.Answer.{Answer, given, refused}
-use Rattle.refusal.specs.Fault.{fault_of}
+use Rattle.refusal.specs.Answer.{Answer, given, refused, answer_as}
+use Rattle.refusal.specs.declared.Refusal.{Refusal}
 use Rattle.bitmap.specs.Words.{block_count, word_count}
 use Rattle.intake.specs.Check.{check_lengths}
 use Rattle.intake.specs.declared.Opened.{Opened}
-use Rattle.intake.specs.declared.Opened.TheVariants.{Open, Refused}
 
 -- the length that the record holds, and the number of blocks
 pub data OpenedFile : Type 0 where
@@ -17,12 +16,14 @@ pub record Opening : Type 0 where
   pub answer : Answer OpenedFile
   pub map : Words
 
--- the answer for each case of the code's enum
-abbrev pub opened_of : Opened → Answer OpenedFile
-opened_of (Open intake blocks) = given (opened intake.len blocks)
-opened_of (Refused refusal) = refused (fault_of refusal)
+-- the answer that the code's result stands for
+abbrev pub file_of : Opened → OpenedFile
+file_of o = opened o.intake.len o.blocks
 
-abbrev pub opening_of : Opened → Words → Opening
+abbrev pub opened_of : Result Opened Refusal → Answer OpenedFile
+opened_of r = answer_as file_of r
+
+abbrev pub opening_of : Result Opened Refusal → Words → Opening
 opening_of r map = record { answer = opened_of r; map = map }
 
 -- the map with its words in use set to 0

@@ -1,16 +1,15 @@
 -- Rules 1.19 to 1.22: a packet of blocks in one call is a fold of the single delivery (specs/Deliver). Rule 2.31: its refusals.
-use Rattle.std.specs.Prelude.{not, List, [], ◌∷◌, ℕ, ◌*◌, length, take, drop, eqb, ltb}
+use Rattle.std.specs.Prelude.{not, List, [], ◌∷◌, ℕ, ◌*◌, length, take, drop, eqb, ltb, Result}
 use Rattle.lists.specs.Alias.{Bytes, Words}
 use Rattle.lists.specs.Write.{written}
 use Rattle.format.specs.Size.{block_size}
-use Rattle.refusal.specs.Answer.{Answer, given, refused, refuse_if}
-use Rattle.refusal.specs.Fault.{fault, fault_of}
+use Rattle.refusal.specs.Answer.{Answer, given, refused, refuse_if, answer_of}
+use Rattle.refusal.specs.Fault.{fault}
+use Rattle.refusal.specs.declared.Refusal.{Refusal}
 use Rattle.bitmap.specs.Count.{held_count}
 use Rattle.intake.specs.Memory.{Memory, memory}
 use Rattle.intake.specs.Check.{check_call}
 use Rattle.intake.specs.Deliver.{Delivery, Verdict, new, same, Taken, taken, delivery}
-use Rattle.intake.specs.declared.PacketDelivered.{PacketDelivered}
-use Rattle.intake.specs.declared.PacketDelivered.TheVariants.{Held, Refused}
 
 -- Rule 1.19: piece i is the 512 bytes from 512 i on
 unfoldable pub paired : (blocks : Words) (pieces : Bytes) → List Delivery
@@ -56,13 +55,9 @@ pub record PacketOutcome : Type 0 where
 abbrev pub packet_outcome : Answer ℕ → Memory → Words → PacketOutcome
 packet_outcome answer m results = record { answer = answer; memory = m; results = results }
 
--- the answer for each case of the code's enum
-abbrev pub held_of : PacketDelivered → Answer ℕ
-held_of (Held count) = given count
-held_of (Refused refusal) = refused (fault_of refusal)
-
-abbrev pub packet_outcome_of : (r : PacketDelivered) (image : Bytes) (map results : Words) → PacketOutcome
-packet_outcome_of r image map results = packet_outcome (held_of r) (memory image map) results
+-- the answer that the code's result stands for, and every borrowed buffer
+abbrev pub packet_outcome_of : (r : Result ℕ Refusal) (image : Bytes) (map results : Words) → PacketOutcome
+packet_outcome_of r image map results = packet_outcome (answer_of r) (memory image map) results
 
 -- Rules 1.20 to 1.22: the deliveries are made one after the other, and the held blocks are counted behind the last.
 -- Rule 2.22: a refused packet changes nothing.

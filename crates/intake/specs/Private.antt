@@ -1,27 +1,29 @@
 -- Definitions that only the contracts of private functions and the proofs cite.
-use Rattle.std.specs.Prelude.{◌≡◌, true, false, ℕ, ◌+◌, ◌<◌, ◌≤◌}
+use Rattle.std.specs.Prelude.{◌≡◌, true, false, ℕ, ◌+◌, ◌<◌, ◌≤◌, Result}
 use Rattle.lists.specs.Alias.{Bytes, Words}
-use Rattle.refusal.specs.Answer.{Answer, given, refused}
-use Rattle.refusal.specs.Fault.{fault_of}
+use Rattle.refusal.specs.Answer.{Answer, given, refused, answer_as}
+use Rattle.refusal.specs.declared.Refusal.{Refusal}
 use Rattle.bitmap.specs.Bit.{bit}
 use Rattle.intake.specs.Memory.{Memory, memory}
 use Rattle.intake.specs.Check.{check_call}
 use Rattle.intake.specs.Deliver.{Verdict, new, same, Judgement, judgement}
 use Rattle.intake.specs.Packet.{verdict_number}
 use Rattle.intake.specs.declared.Judged.{Judged}
-use Rattle.intake.specs.declared.Judged.TheVariants.{New, Same, Refused}
+use Rattle.intake.specs.declared.Judged.TheVariants.{New, Same}
 
 -- none of refusals 1 to 4 applies
 abbrev pub Sound : (len : ℕ) (m : Memory) → Type 0
 Sound len m = check_call {A = Unit} len m (given tt) ≡ given tt
 
 -- the verdict for each case of the code's enum
-abbrev pub judged_of : Judged → Answer Verdict
-judged_of New = given new
-judged_of Same = given same
-judged_of (Refused refusal) = refused (fault_of refusal)
+abbrev pub verdict_of : Judged → Verdict
+verdict_of New = new
+verdict_of Same = same
 
-abbrev pub judgement_of : (r : Judged) (image : Bytes) (map : Words) → Judgement
+abbrev pub judged_of : Result Judged Refusal → Answer Verdict
+judged_of r = answer_as verdict_of r
+
+abbrev pub judgement_of : (r : Result Judged Refusal) (image : Bytes) (map : Words) → Judgement
 judgement_of r image map = judgement (judged_of r) (memory image map)
 
 -- a block's result in a packet, from its verdict

@@ -4,23 +4,24 @@
 ghost use Rattle.std.specs.Prelude.{◌≡◌, ◌+◌, ◌*◌, ◌≤◌, ◌++◌, length, drop, replicate, eqb};
 ghost use Rattle.lists.specs.Write.{written};
 ghost use Rattle.format.specs.Size.{block_size};
-ghost use Rattle.refusal.specs.Answer.{given};
+ghost use Rattle.refusal.specs.Answer.{given, answer_of};
 ghost use Rattle.bitmap.specs.Bit.{with_bit};
+ghost use Rattle.bitmap.specs.Count.{held_count};
 ghost use Rattle.intake.specs.Length.{allowed_length};
-ghost use Rattle.intake.specs.Check.{checked_of, check_lengths, check_call};
+ghost use Rattle.intake.specs.Check.{check_lengths, check_call};
 ghost use Rattle.intake.specs.Open.{opening_of, opening};
 ghost use Rattle.intake.specs.Memory.{memory};
 ghost use Rattle.intake.specs.Equal.{equal};
-ghost use Rattle.intake.specs.Deliver.{stored, verdict, judged, with_count, delivered_of, outcome_of, delivery};
+ghost use Rattle.intake.specs.Deliver.{stored, verdict, judged, taken, taken_of, outcome_of, delivery};
 ghost use Rattle.intake.specs.Packet.{paired, check_sizes, after_each, results_of_each, packet_outcome_of, packet};
 ghost use Rattle.intake.specs.Missing.{held, next_missing, missing_of};
-ghost use Rattle.intake.specs.Private.{judged_of, judgement_of, result_of_verdict, Sound, HeldRun};
+ghost use Rattle.intake.specs.Private.{verdict_of, judged_of, judgement_of, result_of_verdict, Sound, HeldRun};
 
 use format::Block;
-use refusal::Refusal;
+use refusal::{Fault, Refusal};
 
 // An opened intake: what every later call takes, with the same image and map.
-#[derive(Clone, Copy)]
+#[derive(Clone, Copy, Debug, PartialEq, Eq)]
 pub struct Intake {
     pub len: u64,
 }
@@ -36,19 +37,18 @@ impl Intake {
     }
 }
 
-// What an opening answers.
-#[derive(Drop)]
-pub enum Opened {
-    Open { intake: Intake, blocks: u64 },
-    Refused(Refusal),
+// What an opening gives: the intake, and how many blocks the file has.
+#[derive(Clone, Copy, Debug, PartialEq, Eq)]
+pub struct Opened {
+    pub intake: Intake,
+    pub blocks: u64,
 }
 
-// What a delivery answers, the good answers with the held count after it.
-#[derive(Drop)]
+// What a delivery gives: whether the block is new, with the held count after it.
+#[derive(Clone, Copy, Debug, PartialEq, Eq)]
 pub enum Delivered {
     New(u64),
     Same(u64),
-    Refused(Refusal),
 }
 
 impl Delivered {
@@ -58,33 +58,11 @@ impl Delivered {
     pub const SAME: u32 = 64;
 }
 
-// What a packet answers: the held count after it.
-#[derive(Drop)]
-pub enum PacketDelivered {
-    Held(u64),
-    Refused(Refusal),
-}
-
-// Whether a call passes refusals 1 to 4, or a packet 6 and 17, or which of them answers.
-#[derive(Drop)]
-pub enum Checked {
-    Sound,
-    Refused(Refusal),
-}
-
-// The first block from a number on that is not held.
-#[derive(Drop)]
-pub enum Missing {
-    Block(u64),
-    None,
-}
-
 // The verdict on a delivery, before anything is counted.
-#[derive(Drop)]
+#[derive(Clone, Copy, Debug, PartialEq, Eq)]
 enum Judged {
     New,
     Same,
-    Refused(Refusal),
 }
 
 // Whether a file may have the length.
@@ -102,36 +80,31 @@ fn allowed(len: u64) -> bool
 }
 
 // Refusals 1 to 3.
-fn check_lengths(len: u64, image: &[u8], map: &[u64]) -> Checked
-    ensures { checked_of result ≡ check_lengths len image.now map.now (given tt) }
+fn check_lengths(len: u64, image: &[u8], map: &[u64]) -> Result<(), Refusal>
+    ensures { answer_of result ≡ check_lengths len image.now map.now (given tt) }
 {
     if !allowed(len) {
-        return Checked::Refused(Refusal::Length);
+        return Err(Refusal::Length);
     }
     if image.len() < (len as usize) {
-        return Checked::Refused(Refusal::ImageShort);
+        return Err(Refusal::ImageShort);
     }
     if map.len() < (bitmap::word_count(len) as usize) {
-        return Checked::Refused(Refusal::MapShort);
+        return Err(Refusal::MapShort);
     }
-    Checked::Sound
+    Ok(())
 }
 
 // Refusals 1 to 4, with which every call after the opening begins.
-pub fn check(intake: Intake, image: &[u8], map: &[u64]) -> Checked
-    ensures { checked_of result ≡ check_call intake.len (memory image.now map.now) (given tt) }
+pub fn check(intake: Intake, image: &[u8], map: &[u64]) -> Result<(), Refusal>
+    ensures { answer_of result ≡ check_call intake.len (memory image.now map.now) (given tt) }
 {
     let len = intake.len;
-    match check_lengths(len, image, map) {
-        Checked::Refused(refusal) => Checked::Refused(refusal),
-        Checked::Sound => {
-            if bitmap::has_spare_bit(len, map) {
-                Checked::Refused(Refusal::MapSpare)
-            } else {
-                Checked::Sound
-            }
-        }
+    check_lengths(len, image, map)?;
+    if bitmap::has_spare_bit(len, map) {
+        return Err(Refusal::MapSpare);
     }
+    Ok(())
 }
 
 // Sets the first words of the map to 0.
@@ -147,19 +120,15 @@ fn clear(map: &mut [u64], words: usize)
 }
 
 // Opens an intake: clears the map's words in use, and leaves the image and the other words.
-pub fn open(len: u64, image: &[u8], map: &mut [u64]) -> Opened
+pub fn open(len: u64, image: &[u8], map: &mut [u64]) -> Result<Opened, Refusal>
     ensures { opening_of result map.new ≡ opening len image.now map.old }
 {
-    match check_lengths(len, image, map) {
-        Checked::Refused(refusal) => Opened::Refused(refusal),
-        Checked::Sound => {
-            clear(map, bitmap::word_count(len) as usize);
-            Opened::Open {
-                intake: Intake::new(len),
-                blocks: bitmap::block_count(len),
-            }
-        }
-    }
+    check_lengths(len, image, map)?;
+    clear(map, bitmap::word_count(len) as usize);
+    Ok(Opened {
+        intake: Intake::new(len),
+        blocks: bitmap::block_count(len),
+    })
 }
 
 // Whether two slices have the same bytes.
@@ -192,25 +161,31 @@ fn copy(into: &mut [u8], from: &[u8])
 }
 
 // The verdict on a delivery past refusals 1 to 4.
-fn judge_block(len: u64, image: &[u8], map: &[u64], block: u64, piece: &[u8]) -> Judged
+fn judge_block(
+    len: u64,
+    image: &[u8],
+    map: &[u64],
+    block: u64,
+    piece: &[u8],
+) -> Result<Judged, Refusal>
     requires { Sound len (memory image.now map.now) }
     ensures { judged_of result ≡ verdict len (memory image.now map.now) block piece.now }
 {
     if bitmap::block_count(len) <= block {
-        return Judged::Refused(Refusal::BlockNumber);
+        return Err(Refusal::BlockNumber);
     }
     if piece.len() != Block::SIZE {
-        return Judged::Refused(Refusal::PieceSize);
+        return Err(Refusal::PieceSize);
     }
     if !bitmap::has_bit(map, block) {
-        return Judged::New;
+        return Ok(Judged::New);
     }
     let start = (block as usize) * Block::SIZE;
     let end = start + Block::SIZE;
     if same_bytes(&image[start..end], piece) {
-        Judged::Same
+        Ok(Judged::Same)
     } else {
-        Judged::Refused(Refusal::BlockDiffers)
+        Err(Refusal::BlockDiffers)
     }
 }
 
@@ -236,29 +211,34 @@ fn store(image: &mut [u8], map: &mut [u64], block: u64, piece: &[u8])
 }
 
 // The verdict on a delivery past refusals 1 to 4: a new block is stored, and nothing else changes the image and the map.
-fn take_block(len: u64, image: &mut [u8], map: &mut [u64], block: u64, piece: &[u8]) -> Judged
+fn take_block(
+    len: u64,
+    image: &mut [u8],
+    map: &mut [u64],
+    block: u64,
+    piece: &[u8],
+) -> Result<Judged, Refusal>
     requires { Sound len (memory image.old map.old) }
     ensures { judgement_of result image.new map.new
         ≡ judged len (memory image.old map.old) block piece.now }
 {
-    match judge_block(len, image, map, block, piece) {
+    match judge_block(len, image, map, block, piece)? {
         Judged::New => {
             store(image, map, block, piece);
-            Judged::New
+            Ok(Judged::New)
         }
-        Judged::Same => Judged::Same,
-        Judged::Refused(refusal) => Judged::Refused(refusal),
+        Judged::Same => Ok(Judged::Same),
     }
 }
 
-// The answer to a delivery from its verdict, with the held count.
+// What a delivery gives, from its verdict, with the held count.
 fn with_count(len: u64, map: &[u64], verdict: Judged) -> Delivered
-    ensures { delivered_of result ≡ with_count len map.now (judged_of verdict) }
+    ensures { taken_of result ≡ taken (verdict_of verdict) (held_count len map.now) }
 {
+    let count = bitmap::held_count(len, map);
     match verdict {
-        Judged::New => Delivered::New(bitmap::held_count(len, map)),
-        Judged::Same => Delivered::Same(bitmap::held_count(len, map)),
-        Judged::Refused(refusal) => Delivered::Refused(refusal),
+        Judged::New => Delivered::New(count),
+        Judged::Same => Delivered::Same(count),
     }
 }
 
@@ -269,28 +249,23 @@ pub fn deliver(
     map: &mut [u64],
     block: u64,
     piece: &[u8],
-) -> Delivered
+) -> Result<Delivered, Refusal>
     ensures { outcome_of result image.new map.new
         ≡ delivery intake.len (memory image.old map.old) block piece.now }
 {
-    match check(intake, image, map) {
-        Checked::Refused(refusal) => Delivered::Refused(refusal),
-        Checked::Sound => {
-            let len = intake.len;
-            let verdict = take_block(len, image, map, block, piece);
-            with_count(len, map, verdict)
-        }
-    }
+    check(intake, image, map)?;
+    let verdict = take_block(intake.len, image, map, block, piece)?;
+    Ok(with_count(intake.len, map, verdict))
 }
 
 // A block's result in a packet.
-fn result(verdict: Judged) -> u32
+fn result(verdict: Result<Judged, Refusal>) -> u32
     ensures { result ≡ result_of_verdict (judged_of verdict) }
 {
     match verdict {
-        Judged::New => Delivered::NEW,
-        Judged::Same => Delivered::SAME,
-        Judged::Refused(refusal) => refusal.fault().number,
+        Ok(Judged::New) => Delivered::NEW,
+        Ok(Judged::Same) => Delivered::SAME,
+        Err(refusal) => Fault::from(refusal).number,
     }
 }
 
@@ -331,16 +306,16 @@ fn sized(blocks: &[u64], pieces: &[u8]) -> bool
 }
 
 // Refusals 6 and 17 of a packet.
-fn check_sizes(blocks: &[u64], pieces: &[u8], results: &[u32]) -> Checked
-    ensures { checked_of result ≡ check_sizes blocks.now pieces.now results.now (given tt) }
+fn check_sizes(blocks: &[u64], pieces: &[u8], results: &[u32]) -> Result<(), Refusal>
+    ensures { answer_of result ≡ check_sizes blocks.now pieces.now results.now (given tt) }
 {
     if !sized(blocks, pieces) {
-        return Checked::Refused(Refusal::PieceSize);
+        return Err(Refusal::PieceSize);
     }
     if results.len() < blocks.len() {
-        return Checked::Refused(Refusal::ListShort(blocks.len()));
+        return Err(Refusal::ListShort(blocks.len()));
     }
-    Checked::Sound
+    Ok(())
 }
 
 // Refusals 1 to 4, 6 and 17, with which a packet begins.
@@ -351,14 +326,12 @@ fn check_packet(
     blocks: &[u64],
     pieces: &[u8],
     results: &[u32],
-) -> Checked
-    ensures { checked_of result ≡ check_call intake.len (memory image.now map.now)
+) -> Result<(), Refusal>
+    ensures { answer_of result ≡ check_call intake.len (memory image.now map.now)
         (check_sizes blocks.now pieces.now results.now (given tt)) }
 {
-    match check(intake, image, map) {
-        Checked::Refused(refusal) => Checked::Refused(refusal),
-        Checked::Sound => check_sizes(blocks, pieces, results),
-    }
+    check(intake, image, map)?;
+    check_sizes(blocks, pieces, results)
 }
 
 // Takes in a packet of blocks, one for each number, their pieces end to end, and counts once. A refused block does not end it.
@@ -369,18 +342,13 @@ pub fn deliver_packet(
     blocks: &[u64],
     pieces: &[u8],
     results: &mut [u32],
-) -> PacketDelivered
+) -> Result<u64, Refusal>
     ensures { packet_outcome_of result image.new map.new results.new
         ≡ packet intake.len (memory image.old map.old) blocks.now pieces.now results.old }
 {
-    match check_packet(intake, image, map, blocks, pieces, results) {
-        Checked::Refused(refusal) => PacketDelivered::Refused(refusal),
-        Checked::Sound => {
-            let len = intake.len;
-            take_blocks(len, image, map, blocks, pieces, results);
-            PacketDelivered::Held(bitmap::held_count(len, map))
-        }
-    }
+    check_packet(intake, image, map, blocks, pieces, results)?;
+    take_blocks(intake.len, image, map, blocks, pieces, results);
+    Ok(bitmap::held_count(intake.len, map))
 }
 
 // Whether the file has a block, and it is held.
@@ -407,7 +375,7 @@ fn held_run(map: &[u64], block: u64) -> u64
 }
 
 // The first block from a number on that is not held.
-pub fn next_missing(intake: Intake, map: &[u64], from: u64) -> Missing
+pub fn next_missing(intake: Intake, map: &[u64], from: u64) -> Option<u64>
     ensures { missing_of result ≡ next_missing intake.len map.now from }
 {
     let blocks = bitmap::block_count(intake.len);
@@ -415,9 +383,9 @@ pub fn next_missing(intake: Intake, map: &[u64], from: u64) -> Missing
     while block < blocks {
         let run = held_run(map, block);
         if run == 0 {
-            return Missing::Block(block);
+            return Some(block);
         }
         block += run;
     }
-    Missing::None
+    None
 }

@@ -1,8 +1,8 @@
 // Runs the intake near its edges: refusals 1 to 7, New and Same, and writes a line for each call.
 #![tactic(auto)]
 
-use intake::{Delivered, Intake, Opened};
-use refusal::Refusal;
+use intake::{Delivered, Intake};
+use refusal::{Fault, Refusal};
 use std::io;
 
 fn say(rt: &impl Print, word: &str, n: u64) -> io::Result<()> {
@@ -10,14 +10,13 @@ fn say(rt: &impl Print, word: &str, n: u64) -> io::Result<()> {
 }
 
 fn say_refused(rt: &impl Print, refusal: Refusal) -> io::Result<()> {
-    let fault = refusal.fault();
-    say(rt, "refused ", fault.number as u64)
+    say(rt, "refused ", Fault::from(refusal).number as u64)
 }
 
 fn open(rt: &impl Print, len: u64, image: &[u8], map: &mut [u64]) -> io::Result<()> {
     match intake::open(len, image, map) {
-        Opened::Open { intake: _, blocks } => say(rt, "open ", blocks),
-        Opened::Refused(refusal) => say_refused(rt, refusal),
+        Ok(opened) => say(rt, "open ", opened.blocks),
+        Err(refusal) => say_refused(rt, refusal),
     }
 }
 
@@ -30,9 +29,9 @@ fn deliver(
     piece: &[u8],
 ) -> io::Result<()> {
     match intake::deliver(Intake::new(len), image, map, block, piece) {
-        Delivered::New(count) => say(rt, "new ", count),
-        Delivered::Same(count) => say(rt, "same ", count),
-        Delivered::Refused(refusal) => say_refused(rt, refusal),
+        Ok(Delivered::New(count)) => say(rt, "new ", count),
+        Ok(Delivered::Same(count)) => say(rt, "same ", count),
+        Err(refusal) => say_refused(rt, refusal),
     }
 }
 

@@ -1,8 +1,8 @@
 // Runs packets to a file of two blocks near their edges, and writes a line for each call and each result.
 #![tactic(auto)]
 
-use intake::{Intake, Opened, PacketDelivered};
-use refusal::Refusal;
+use intake::Intake;
+use refusal::{Fault, Refusal};
 use std::io;
 
 fn say(rt: &impl Print, word: &str, n: u64) -> io::Result<()> {
@@ -10,7 +10,7 @@ fn say(rt: &impl Print, word: &str, n: u64) -> io::Result<()> {
 }
 
 fn say_refused(rt: &impl Print, refusal: Refusal) -> io::Result<()> {
-    let fault = refusal.fault();
+    let fault = Fault::from(refusal);
     say(rt, "refused ", fault.number as u64)?;
     say(rt, "carries ", fault.value)?;
     say(rt, "entry ", fault.entry as u64)
@@ -29,8 +29,8 @@ fn say_results(rt: &impl Print, results: &[u32]) -> io::Result<()> {
 
 fn open(rt: &impl Print, image: &[u8], map: &mut [u64]) -> io::Result<()> {
     match intake::open(1024, image, map) {
-        Opened::Open { intake: _, blocks } => say(rt, "open ", blocks),
-        Opened::Refused(refusal) => say_refused(rt, refusal),
+        Ok(opened) => say(rt, "open ", opened.blocks),
+        Err(refusal) => say_refused(rt, refusal),
     }
 }
 
@@ -43,8 +43,8 @@ fn packet(
     results: &mut [u32],
 ) -> io::Result<()> {
     match intake::deliver_packet(Intake::new(1024), image, map, blocks, pieces, results) {
-        PacketDelivered::Held(count) => say(rt, "held ", count)?,
-        PacketDelivered::Refused(refusal) => say_refused(rt, refusal)?,
+        Ok(count) => say(rt, "held ", count)?,
+        Err(refusal) => say_refused(rt, refusal)?,
     }
     say_results(rt, results)
 }

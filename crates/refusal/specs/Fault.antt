@@ -1,5 +1,6 @@
 -- Rules 2.1 to 2.21, 2.32: each refusal's number and what it carries.
-use Rattle.std.specs.Prelude.{◌≡◌, ℕ}
+use Rattle.std.specs.Prelude.{◌≡◌, ℕ, List, ◌++◌, codes}
+use Rattle.std.specs.Fmt.{decimal}
 use Rattle.refusal.specs.declared.Fault.{Fault}
 use Rattle.refusal.specs.declared.Refusal.{Refusal}
 use Rattle.refusal.specs.declared.Refusal.TheVariants.{Length, ImageShort, MapShort, MapSpare, BlockNumber, PieceSize, BlockDiffers, TableType}
@@ -39,3 +40,7 @@ fault_of (PageType page) = fault 25 page
 -- what the conversion of a refusal gives
 abbrev pub FaultOf : Refusal → Fault → Type 0
 FaultOf refusal f = f ≡ fault_of refusal
+
+-- the text of a refusal: the word and its number
+abbrev pub refusal_text : Refusal → List ℕ
+refusal_text refusal = codes "refused " ++ decimal (fault_of refusal).number

@@ -1,8 +1,11 @@
 // The refusals: each has a number, some carry a value, and two an index entry beside it.
 #![tactic(auto)]
 
-ghost use Rattle.std.specs.Prelude.{◌≡◌};
-ghost use Rattle.refusal.specs.Fault.{fault, fault_at, FaultOf};
+ghost use Rattle.std.specs.Prelude.{◌≡◌, Some};
+ghost use Rattle.refusal.specs.Fault.{fault, fault_at, refusal_text, FaultOf};
+
+use std::error::Error;
+use std::fmt;
 
 // A refusal's number and what it carries, a value and an index entry, 0 where it carries nothing.
 #[derive(Clone, Copy, Debug, PartialEq, Eq)]
@@ -90,3 +93,13 @@ impl From<Refusal> for Fault {
         }
     }
 }
+
+impl fmt::Display for Refusal {
+    ghost output = { λ refusal. Some (refusal_text refusal) };
+
+    fn fmt<W: fmt::Write>(&self, f: &mut fmt::Formatter<W>) -> fmt::Result {
+        write!(f, "refused {}", Fault::from(*self).number)
+    }
+}
+
+impl Error for Refusal {}

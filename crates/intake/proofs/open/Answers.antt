@@ -1,16 +1,16 @@
 -- `intake::open` meets its contract: refused as the check says, else the words in use are cleared (proofs/OpenClears).
-use mathlib.Core.Path.{sym, ap, ◌∙◌}
-use Rattle.intake.specs.Check.{checked_of}
+use mathlib.Core.Path.{sym}
+use Rattle.std.proofs.lemmas.Result.{err_from_is_err_and}
 use Rattle.intake.proofs.OpenClears.{words_inside, open_refused, open_given}
 use Rattle.intake.proofs.open.Goals as goal
 
+pub returns-in_err-check_lengths : goal.returns-in_err-check_lengths
+returns-in_err-check_lengths c =
+    let p = err_from_is_err_and c.from_residual.result c.from_residual.ensures.1 in
+    rw (p.1, p.2) (open_refused _ _ _ c.in_err-check_lengths.ensures)
+
 pub clear-requires : goal.clear-requires
-clear-requires c = words_inside _ _ _ (sym c.check_lengths.ensures ∙ ap checked_of c.in-Sound.is) c.word_count.ensures
+clear-requires c = words_inside _ _ _ (sym c.in_ok-check_lengths.ensures) c.word_count.ensures
 
-pub returns-in-Refused : goal.returns-in-Refused
-returns-in-Refused c = open_refused _ _ _ (sym (ap checked_of c.in-Refused.is) ∙ c.check_lengths.ensures)
-
-pub returns-in-Sound : goal.returns-in-Sound
-returns-in-Sound c =
-    let e = sym c.check_lengths.ensures ∙ ap checked_of c.in-Sound.is in
-    open_given _ _ _ e c.new.ensures c.block_count.ensures c.word_count.ensures c.clear.ensures
+pub returns : goal.returns
+returns c = open_given _ _ _ (sym c.in_ok-check_lengths.ensures) c.new.ensures c.block_count.ensures c.word_count.ensures c.clear.ensures
