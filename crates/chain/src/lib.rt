@@ -33,6 +33,19 @@ pub enum Reply<T> {
     Waiting { page: u32, rows: usize, pages: u64 },
 }
 
+impl<T> Reply<T> {
+    // Waiting for a page before any row was found.
+    pub fn waiting(page: u32) -> Self
+        ensures { result ≡ Reply.Waiting page 0 0 }
+    {
+        Reply::Waiting {
+            page,
+            rows: 0,
+            pages: 0,
+        }
+    }
+}
+
 // Whether every block of a page is held.
 pub fn is_held(size: u32, number: u32, map: &[u64]) -> bool
     ensures { result ≡ page_held size map.now number }
