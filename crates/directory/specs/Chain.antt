@@ -3,15 +3,13 @@
 use Rattle.std.specs.Prelude.{cond, not, List, [], ◌∷◌, ℕ, take, eqb}
 use Rattle.lists.specs.Alias.{Bytes}
 use Rattle.format.specs.Place.{linkable}
-use Rattle.refusal.specs.Fault.{fault, fault_of}
+use Rattle.refusal.specs.Fault.{fault}
 use Rattle.refusal.specs.Answer.{Answer, given, refused, refuse_if, and_then}
 use Rattle.table.specs.declared.Table.{Table}
 use Rattle.table.specs.Table.{table_number}
 use Rattle.directory.specs.declared.Pointer.{Pointer}
 use Rattle.directory.specs.declared.Directory.{Directory}
 use Rattle.directory.specs.declared.Chain.{Chain}
-use Rattle.directory.specs.declared.ChainReply.{ChainReply}
-use Rattle.directory.specs.declared.ChainReply.TheVariants.{Found, Refused}
 use Rattle.directory.specs.Header.{header_holds}
 use Rattle.directory.specs.Directory.{file_directory}
 
@@ -46,8 +44,3 @@ unfoldable pub table_chain : (len : ℕ) (block : Bytes) (table : Table) → Ans
 table_chain len block table =
     refuse_if (not (header_holds len block)) (fault 9 0)
     (chain_in (file_directory len block) table)
-
--- the answer for each case of the code's enum
-abbrev pub chain_reply_of : ChainReply → Answer Chain
-chain_reply_of (Found chain) = given chain
-chain_reply_of (Refused refusal) = refused (fault_of refusal)

@@ -1,10 +1,9 @@
 -- The directory: page length, number of pages and table pointers of a file, as one value.
 -- Rules 3.8 to 3.10. Rests on the header's fields (specs/Header).
-use Rattle.std.specs.Prelude.{true, false, cond, List, [], ◌∷◌, ◌++◌, ℕ, zero, suc, ◌+◌, ◌-◌, ◌/◌, replicate}
+use Rattle.std.specs.Prelude.{Option, Some, None, cond, List, [], ◌∷◌, ◌++◌, ℕ, zero, suc, ◌+◌, ◌-◌, ◌/◌, replicate}
 use Rattle.lists.specs.Alias.{Bytes}
 use Rattle.directory.specs.declared.Pointer.{Pointer}
 use Rattle.directory.specs.declared.Directory.{Directory}
-use Rattle.directory.specs.declared.Header.{Header}
 use Rattle.directory.specs.Header.{len_page, num_tables, type, empty_candidate, first_page, last_page, header_holds}
 
 abbrev pub pointer_in : Bytes → ℕ → Pointer
@@ -42,7 +41,6 @@ file_directory len block =
 abbrev pub no_directory : Directory
 no_directory = record { len_page = 0; page_count = 0; count = 0; pointers = replicate 30 no_pointer }
 
--- whether the header is not broken, and the directory where it is not
-unfoldable pub read_header : ℕ → Bytes → Header
-read_header len block =
-    cond (header_holds len block) (record { ok = true; directory = file_directory len block }) (record { ok = false; directory = no_directory })
+-- the directory, where the header is not broken
+unfoldable pub read_header : ℕ → Bytes → Option Directory
+read_header len block = cond (header_holds len block) (Some (file_directory len block)) None

@@ -2,18 +2,8 @@
 use Rattle.std.specs.Prelude.{◌≡◌, cond, ℕ, ◌^◌, ◌<◌, ltb, eqb}
 use Rattle.std.specs.Int.Bits.{bit_or}
 use Rattle.lists.specs.Alias.{Bytes}
-use Rattle.refusal.specs.Fault.{fault_of}
-use Rattle.refusal.specs.Answer.{Answer, given, refused}
 use Rattle.bitmap.specs.Bit.{digit}
-use Rattle.directory.specs.declared.Pointer.{Pointer}
-use Rattle.directory.specs.declared.PointerReply.{PointerReply}
-use Rattle.directory.specs.declared.PointerReply.TheVariants.{Found, Refused}
 use Rattle.directory.specs.Header.{has_type}
-
--- the answer for each case of the code's enum
-abbrev pub pointer_reply_of : PointerReply → Answer Pointer
-pointer_reply_of (Found p) = given p
-pointer_reply_of (Refused refusal) = refused (fault_of refusal)
 
 -- the types below 64 of the first n pointers: digit t of the word is one exactly when one of them has type t
 pub record TypesIn (block : Bytes) (n word : ℕ) : Type 0 where

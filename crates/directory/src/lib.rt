@@ -4,15 +4,16 @@
 ghost use Rattle.std.specs.Prelude.{◌≡◌, true, ◌≤◌, take};
 ghost use Rattle.directory.specs.Header.{type, allowed_page, allowed_tables, has_type, type_twice, tables_hold, header_holds};
 ghost use Rattle.directory.specs.Directory.{pointer_in, no_pointer, kept, file_directory, no_directory, read_header};
-ghost use Rattle.directory.specs.Chain.{pointer_among, linked_chain, chain_in, chain_reply_of};
-ghost use Rattle.directory.specs.Private.{pointer_reply_of, TypesIn, with_type};
+ghost use Rattle.directory.specs.Chain.{pointer_among, linked_chain, chain_in};
+ghost use Rattle.directory.specs.Private.{TypesIn, with_type};
+ghost use Rattle.refusal.specs.Answer.{answer_of};
 
 use format::{Block, Page};
 use refusal::Refusal;
 use table::Table;
 
 // A table's pointer, under the published names.
-#[derive(Clone, Copy)]
+#[derive(Clone, Copy, Debug, PartialEq, Eq)]
 pub struct Pointer {
     pub table_type: u32,
     pub empty_candidate: u32,
@@ -21,7 +22,7 @@ pub struct Pointer {
 }
 
 // The directory of a file: its page length, its number of pages, and its pointers, of which the first count are in use.
-#[derive(Clone, Copy)]
+#[derive(Clone, Copy, Debug, PartialEq, Eq)]
 pub struct Directory {
     pub len_page: u32,
     pub page_count: u64,
@@ -29,33 +30,13 @@ pub struct Directory {
     pub pointers: [Pointer; 30],
 }
 
-// What reading the header finds: the directory, where the header is not broken.
-#[derive(Drop)]
-pub struct Header {
-    pub ok: bool,
-    pub directory: Directory,
-}
-
 // The chain of a table: page length and number of pages of the file, and the table's first and last page.
-#[derive(Drop)]
+#[derive(Clone, Copy, Debug, PartialEq, Eq)]
 pub struct Chain {
     pub len_page: u32,
     pub page_count: u64,
     pub first_page: u32,
     pub last_page: u32,
-}
-
-// The chain of a table, or why it has none.
-#[derive(Drop)]
-pub enum ChainReply {
-    Found(Chain),
-    Refused(Refusal),
-}
-
-#[derive(Drop)]
-enum PointerReply {
-    Found(Pointer),
-    Refused(Refusal),
 }
 
 fn type_at(block: &[u8], i: u32) -> u32
@@ -112,14 +93,7 @@ fn allowed_tables(n: u32) -> bool
 fn has_type(block: &[u8], n: u32, t: u32) -> bool
     ensures { result ≡ has_type block.now n t }
 {
-    let mut i: u32 = 0;
-    while i < n {
-        if type_at(block, i) == t {
-            return true;
-        }
-        i += 1;
-    }
-    false
+    (0..n).any(|i| type_at(block, i) == t)
 }
 
 // The word with the bit of type t set; only a type below 64 has one.
@@ -146,14 +120,12 @@ fn has_type_twice(block: &[u8], n: u32) -> bool
     ensures { result ≡ type_twice block.now n }
 {
     let mut seen: u64 = 0;
-    let mut i: u32 = 0;
-    while i < n {
+    for i in 0..n {
         let t = type_at(block, i);
         if has_type_in(block, i, seen, t) {
             return true;
         }
         seen = with_type(seen, t);
-        i += 1;
     }
     false
 }
@@ -189,11 +161,8 @@ fn keep(block: &[u8], n: u32) -> [Pointer; 30]
 {
     let blank = no_pointer();
     let mut all = [blank; 30];
-    let mut i: u32 = 0;
-    while i < n {
-        let at = i as usize;
-        all[at] = pointer_at(block, i);
-        i += 1;
+    for i in 0..n {
+        all[i as usize] = pointer_at(block, i);
     }
     all
 }
@@ -214,16 +183,16 @@ fn directory_of(block: &[u8], len: u64) -> Directory
 }
 
 // The chain that a pointer names, where its links are inside the file.
-fn linked_chain(d: Directory, p: Pointer) -> ChainReply
-    ensures { chain_reply_of result ≡ linked_chain d p }
+fn linked_chain(d: Directory, p: Pointer) -> Result<Chain, Refusal>
+    ensures { answer_of result ≡ linked_chain d p }
 {
     if !Page::linkable(d.page_count, p.first_page) {
-        return ChainReply::Refused(Refusal::PageLink(0));
+        return Err(Refusal::PageLink(0));
     }
     if !Page::linkable(d.page_count, p.last_page) {
-        return ChainReply::Refused(Refusal::PageLink(0));
+        return Err(Refusal::PageLink(0));
     }
-    ChainReply::Found(Chain {
+    Ok(Chain {
         len_page: d.len_page,
         page_count: d.page_count,
         first_page: p.first_page,
@@ -231,38 +200,15 @@ fn linked_chain(d: Directory, p: Pointer) -> ChainReply
     })
 }
 
-fn find(pointers: [Pointer; 30], count: u32, t: u32) -> PointerReply
-    ensures { pointer_reply_of result ≡ pointer_among t (take count pointers) }
-{
-    let mut i: usize = 0;
-    let n = if count < 30 { count as usize } else { 30 };
-    while i < n {
-        let p = pointers[i];
-        if p.table_type == t {
-            return PointerReply::Found(p);
-        }
-        i += 1;
-    }
-    PointerReply::Refused(Refusal::NoPointer)
-}
-
 impl Directory {
-    // The directory of a file of len bytes, from its block 0.
-    pub fn read(block: &[u8], len: u64) -> Header
+    // The directory of a file of len bytes, from its block 0; none where the header is broken.
+    pub fn read(block: &[u8], len: u64) -> Option<Directory>
         ensures { result ≡ read_header len block.now }
     {
         if header_holds(block, len) {
-            let directory = directory_of(block, len);
-            Header {
-                ok: true,
-                directory,
-            }
+            Some(directory_of(block, len))
         } else {
-            let directory = Directory::none();
-            Header {
-                ok: false,
-                directory,
-            }
+            None
         }
     }
 
@@ -279,16 +225,23 @@ impl Directory {
         }
     }
 
-    // The chain of a table, whose first and last page are inside the file.
-    pub fn chain(self, table: Table) -> ChainReply
-        ensures { chain_reply_of result ≡ chain_in self table }
+    // The first of the pointers in use that has type t.
+    fn find(&self, t: u32) -> Result<Pointer, Refusal>
+        ensures { answer_of result ≡ pointer_among t (take self.now.count self.now.pointers) }
     {
-        let pointers = self.pointers;
-        let count = self.count;
-        let found = find(pointers, count, table.number());
-        match found {
-            PointerReply::Found(p) => linked_chain(self, p),
-            PointerReply::Refused(refusal) => ChainReply::Refused(refusal),
-        }
+        self.pointers
+            .iter()
+            .take(self.count as usize)
+            .find(|pointer| pointer.table_type == t)
+            .copied()
+            .ok_or(Refusal::NoPointer)
+    }
+
+    // The chain of a table, whose first and last page are inside the file.
+    pub fn chain(self, table: Table) -> Result<Chain, Refusal>
+        ensures { answer_of result ≡ chain_in self table }
+    {
+        let pointer = self.find(u32::from(table))?;
+        linked_chain(self, pointer)
     }
 }

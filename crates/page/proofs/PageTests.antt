@@ -6,7 +6,7 @@
 use mathlib.Core.Path.{◌≡◌, refl, sym, ap, ◌∙◌}
 use mathlib.Core.Bool.{true, false, not, ◌&&◌}
 use mathlib.Core.List.{List, [], map}
-use mathlib.Core.Option.{none, some}
+use Rattle.std.specs.Prelude.{Option, Some, None, Result, Ok, Err}
 use Prim.Native.Nat.{ℕ, ◌-◌, ◌≤◌}
 use native.Mathlib.Omega.{arith}
 use lib.ListN.{length, take, get_or, length-map}
@@ -19,18 +19,16 @@ use Rattle.lists.proofs.Nth.{map_at}
 use Rattle.refusal.specs.declared.Fault.{Fault}
 use Rattle.refusal.specs.declared.Refusal.{Refusal}
 use Rattle.refusal.specs.Fault.{fault, fault_of}
-use Rattle.refusal.specs.Answer.{Answer, given, refused, refuse_if, and_then}
+use Rattle.refusal.specs.Answer.{Answer, given, refused, refuse_if, and_then, answer_of}
 use Rattle.table.specs.declared.Table.{Table}
 use Rattle.page.specs.declared.Row.{Row}
 use Rattle.page.specs.declared.RowIndex.{RowIndex}
-use Rattle.page.specs.declared.PageTested.{PageTested}
-use Rattle.page.specs.declared.PageTested.TheVariants.{Index, Rowless, Refused}
 use Rattle.page.specs.Header.{number_agrees, type_agrees, rowless, entries}
 use Rattle.page.specs.Index.{index_size, row_start, present_from}
 use Rattle.page.specs.Found.{Rows, row_of, no_row}
 use Rattle.page.specs.Read.{index_good, before_index, row_entries, judged, check_rows, page_tests, read_page, row_count}
 use Rattle.page.specs.OneRow.{is_row, read_row}
-use Rattle.page.specs.Private.{row_index, tested_index, tested_of, rows_from, checked_count, judged_at}
+use Rattle.page.specs.Private.{row_index, tested_index, rows_from, checked_count, judged_at}
 use Rattle.page.proofs.RowEntries.{index_inside, index-good, index_bad}
 
 module _ (number : ℕ) (table : Table) (page : Bytes) where
@@ -42,13 +40,13 @@ module _ (number : ℕ) (table : Table) (page : Bytes) where
     type_rung t = rw (h, t)
 
     module _ (t : type_agrees table page ≡ true) {index : RowIndex} (e : index ≡ row_index page) where
-      pub rowless_rung : index.rowless ≡ true → given none ≡ tested_index number table page
+      pub rowless_rung : index.rowless ≡ true → given None ≡ tested_index number table page
       rowless_rung r = let flag : rowless page ≡ true = rw e at r in rw (h, t, flag)
 
       pub index_rung : index.rowless ≡ false → index.good ≡ false → refused (fault 13 number) ≡ tested_index number table page
       index_rung r f = let flag : rowless page ≡ false = rw e at r in rw (h, t, flag, index_bad page e r f)
 
-      pub good_rung : index.good ≡ true → given (some index) ≡ tested_index number table page
+      pub good_rung : index.good ≡ true → given (Some index) ≡ tested_index number table page
       good_rung f = let good = index-good page e f in rw (e, h, t, good.0, good.1)
 
   -- a case for each test that answers
@@ -70,7 +68,7 @@ module _ (number : ℕ) (table : Table) (page : Bytes) where
         by_tests (λ h. rw h (cc (rw h at e))) (λ h t. rw (h, t) (cc (rw (h, t) at e))) (λ h t r. never (cc (rw (h, t, r) at e)))
         (λ h t r g. rw (h, t, r, g) (cc (rw (h, t, r, g) at e))) (λ h t r g. never (cc (rw (h, t, r, g) at e)))
 
-    tested_rowless : given none ≡ tested_index number table page → x ≡ page_tests number table page x y
+    tested_rowless : given None ≡ tested_index number table page → x ≡ page_tests number table page x y
     tested_rowless e =
         by_tests (λ h. never (cc (rw h at e))) (λ h t. never (cc (rw (h, t) at e))) (λ h t r. rw (h, t, r))
         (λ h t r g. never (cc (rw (h, t, r, g) at e))) (λ h t r g. never (cc (rw (h, t, r, g) at e)))
@@ -82,7 +80,7 @@ module _ (number : ℕ) (table : Table) (page : Bytes) where
     pub good : index_good page ≡ true
     pub index_is : index ≡ row_index page
 
-  tested_good : {index : RowIndex} → given (some index) ≡ tested_index number table page → Rowful index
+  tested_good : {index : RowIndex} → given (Some index) ≡ tested_index number table page → Rowful index
   tested_good e =
       by_tests (λ h. never (cc (rw h at e))) (λ h t. never (cc (rw (h, t) at e))) (λ h t r. never (cc (rw (h, t, r) at e)))
       (λ h t r g. never (cc (rw (h, t, r, g) at e)))
@@ -96,25 +94,25 @@ module _ (number : ℕ) (table : Table) (page : Bytes) where
     start_inside = rw g.index_is (omega arith)
 
   -- by what the code is told
-  module _ {tested : PageTested} (e : tested_of tested ≡ tested_index number table page) where
-    pub index_told : {index : RowIndex} → tested ≡ Index index → Rowful index
-    index_told k = tested_good (sym (ap tested_of k) ∙ e)
+  module _ {tested : Result (Option RowIndex) Refusal} (e : answer_of tested ≡ tested_index number table page) where
+    pub index_told : {index : RowIndex} → tested ≡ Ok (Some index) → Rowful index
+    index_told k = tested_good (sym (ap answer_of k) ∙ e)
 
-    pub no_rows : tested ≡ Rowless → given 0 ≡ row_count (read_page number table page)
+    pub no_rows : tested ≡ Ok None → given 0 ≡ row_count (read_page number table page)
     unfolding read_page
-    no_rows k = ap row_count (tested_rowless (given []) _ (sym (ap tested_of k) ∙ e))
+    no_rows k = ap row_count (tested_rowless (given []) _ (sym (ap answer_of k) ∙ e))
 
-    pub rows_refused : {refusal : Refusal} → tested ≡ Refused refusal → refused (fault_of refusal) ≡ row_count (read_page number table page)
+    pub rows_refused : {refusal : Refusal} → tested ≡ Err refusal → refused (fault_of refusal) ≡ row_count (read_page number table page)
     unfolding read_page
-    rows_refused k = ap row_count (tested_refused (given []) _ (sym (ap tested_of k) ∙ e))
+    rows_refused k = ap row_count (tested_refused (given []) _ (sym (ap answer_of k) ∙ e))
 
-    pub no-row : (start rank : ℕ) → tested ≡ Rowless → refused (fault 18 0) ≡ read_row number table page start rank
+    pub no-row : (start rank : ℕ) → tested ≡ Ok None → refused (fault 18 0) ≡ read_row number table page start rank
     unfolding read_row
-    no-row start rank k = tested_rowless (refused (fault 18 0)) _ (sym (ap tested_of k) ∙ e)
+    no-row start rank k = tested_rowless (refused (fault 18 0)) _ (sym (ap answer_of k) ∙ e)
 
-    pub row_refused : (start rank : ℕ) {refusal : Refusal} → tested ≡ Refused refusal → refused (fault_of refusal) ≡ read_row number table page start rank
+    pub row_refused : (start rank : ℕ) {refusal : Refusal} → tested ≡ Err refusal → refused (fault_of refusal) ≡ read_row number table page start rank
     unfolding read_row
-    row_refused start rank k = tested_refused (refused (fault 18 0)) _ (sym (ap tested_of k) ∙ e)
+    row_refused start rank k = tested_refused (refused (fault 18 0)) _ (sym (ap answer_of k) ∙ e)
 
   count_then : (answer : Answer (Unit {0})) (found : Rows) → and_then answer (λ _. given (length found)) ≡ row_count (and_then answer (λ _. given found))
   count_then (given u) found = refl

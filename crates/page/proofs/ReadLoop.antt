@@ -9,18 +9,16 @@ use Prim.Native.Nat.{ℕ, suc, ◌+◌, ◌-◌, ◌<◌, ◌≤◌}
 use native.Mathlib.Nat.{sub-zero}
 use native.Mathlib.Omega.{arith}
 use lib.ListN.{length}
+use Rattle.std.specs.Prelude.{Result, Ok, Err}
 use Rattle.lists.specs.Alias.{Bytes}
 use Rattle.refusal.specs.declared.Refusal.{Refusal}
 use Rattle.refusal.specs.Fault.{fault_of}
-use Rattle.refusal.specs.Answer.{Answer, given, refused, and_then}
+use Rattle.refusal.specs.Answer.{Answer, given, refused, and_then, answer_of}
 use Rattle.table.specs.declared.Table.{Table}
 use Rattle.page.specs.declared.Row.{Row}
-use Rattle.page.specs.declared.RowRead.{RowRead}
-use Rattle.page.specs.declared.RowRead.TheVariants.{Good, Refused}
 use Rattle.page.specs.Index.{present}
 use Rattle.page.specs.Found.{Rows, row_of}
 use Rattle.page.specs.Read.{check_found, judged, check_rows}
-use Rattle.page.specs.OneRow.{row_read_of}
 use Rattle.page.specs.Private.{rows_from, checked_count}
 use Rattle.page.proofs.PageAnswer.{good_check, fault_check}
 use Rattle.page.proofs.EntriesInside.{entry_absent, entry_present, entry_none}
@@ -58,7 +56,7 @@ module _ {number : ℕ} {table : Table} {page before : Bytes} {n i found : ℕ} 
     unfolding count_from check_rows later
     turn k = r.rest ∙ rw (entry_present page h p, k)
 
-    pub good : {told : RowRead} {other : Row} → told ≡ Good other → row_read_of told ≡ judged table before row
+    pub good : {told : Result Row Refusal} {other : Row} → told ≡ Ok other → answer_of told ≡ judged table before row
         → Reading number table page before n (i + 1) (found + 1)
     unfolding count_from later
     good {other = other} e k =
@@ -67,7 +65,7 @@ module _ {number : ℕ} {table : Table} {page before : Bytes} {n i found : ℕ} 
         let z : found + suc (length later) ≡ found + 1 + length later = omega arith in
         record { entry = omega arith; few = omega arith; rest = turn own ∙ rw z }
 
-    pub fault : {told : RowRead} {refusal : Refusal} → told ≡ Refused refusal → row_read_of told ≡ judged table before row
+    pub fault : {told : Result Row Refusal} {refusal : Refusal} → told ≡ Err refusal → answer_of told ≡ judged table before row
         → refused (fault_of refusal) ≡ checked_count table before (rows_from number page n 0)
     fault {refusal = refusal} e k =
         let check = fault_check row (fault_of refusal) (check_found table before row) (rw e at k) in

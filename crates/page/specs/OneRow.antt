@@ -2,12 +2,10 @@
 -- It rests on the rows of a page and their check (specs/Read).
 use Rattle.std.specs.Prelude.{Bool, not, ◌&&◌, ℕ, length, get_or, eqb, ltb}
 use Rattle.lists.specs.Alias.{Bytes}
-use Rattle.refusal.specs.Fault.{fault, fault_of}
-use Rattle.refusal.specs.Answer.{Answer, given, refused, refuse_if}
+use Rattle.refusal.specs.Fault.{fault}
+use Rattle.refusal.specs.Answer.{Answer, refused, refuse_if}
 use Rattle.table.specs.declared.Table.{Table}
 use Rattle.page.specs.declared.Row.{Row}
-use Rattle.page.specs.declared.RowRead.{RowRead}
-use Rattle.page.specs.declared.RowRead.TheVariants.{Good, Refused}
 use Rattle.page.specs.Index.{row_start}
 use Rattle.page.specs.Found.{row_of}
 use Rattle.page.specs.Read.{before_index, row_entries, judged, page_tests}
@@ -26,8 +24,3 @@ read_row number table page start rank =
     page_tests number table page (refused (fault 18 0))
     (refuse_if (not (is_row page start rank)) (fault 18 0)
     (judged table (before_index page) (row_ranked number page rank)))
-
--- the answer for each case of the code's enum
-abbrev pub row_read_of : RowRead → Answer Row
-row_read_of (Good row) = given row
-row_read_of (Refused refusal) = refused (fault_of refusal)

@@ -1,16 +1,13 @@
 -- Definitions that only the contracts of private functions and the proofs cite.
-use Rattle.std.specs.Prelude.{cond, not, ◌&&◌, map, ℕ, ◌-◌, ◌%◌, ◌^◌, min, length, eqb}
-use Rattle.std.proofs.Math.Option.{Option, none, some}
+use Rattle.std.specs.Prelude.{cond, not, ◌&&◌, map, ℕ, ◌-◌, ◌%◌, ◌^◌, min, length, eqb, Option, Some, None}
 use Rattle.std.specs.Int.Count.{ones}
 use Rattle.lists.specs.Alias.{Bytes}
 use Rattle.lists.specs.Nth.{Nth, element, past}
 use Rattle.number.specs.Number.{le16}
-use Rattle.refusal.specs.Fault.{fault, fault_of}
+use Rattle.refusal.specs.Fault.{fault}
 use Rattle.refusal.specs.Answer.{Answer, given, refused, refuse_if, and_then}
 use Rattle.table.specs.declared.Table.{Table}
 use Rattle.page.specs.declared.RowIndex.{RowIndex}
-use Rattle.page.specs.declared.PageTested.{PageTested}
-use Rattle.page.specs.declared.PageTested.TheVariants.{Index, Rowless, Refused}
 use Rattle.page.specs.Header.{rowless, entries}
 use Rattle.page.specs.Index.{index_size, flags_at, present_from}
 use Rattle.page.specs.declared.Row.{Row}
@@ -37,12 +34,7 @@ group_ones page left i = ones (le16 page (flags_at page i) % 2 ^ min left 16)
 
 -- Rule 4.15: the row index of a page, where the page's tests come to it
 abbrev pub tested_index : (number : ℕ) (table : Table) (page : Bytes) → Answer (Option RowIndex)
-tested_index number table page = page_tests number table page (given none) (given (some (row_index page)))
-
-abbrev pub tested_of : PageTested → Answer (Option RowIndex)
-tested_of (Index index) = given (some index)
-tested_of Rowless = given none
-tested_of (Refused refusal) = refused (fault_of refusal)
+tested_index number table page = page_tests number table page (given None) (given (Some (row_index page)))
 
 -- the rows of the present ones among so many entries from i on
 abbrev pub rows_from : (number : ℕ) (page : Bytes) (left i : ℕ) → Rows

@@ -3,12 +3,10 @@
 use Rattle.std.specs.Prelude.{Bool, cond, not, ◌&&◌, List, [], ◌∷◌, map, ℕ, ◌+◌, ◌-◌, length, take, drop, leb, eqb}
 use Rattle.lists.specs.Alias.{Bytes, Places}
 use Rattle.format.specs.Size.{heap_start}
-use Rattle.refusal.specs.Fault.{fault, fault_at, fault_of}
+use Rattle.refusal.specs.Fault.{fault, fault_at}
 use Rattle.refusal.specs.Answer.{Answer, given, refused, refuse_if, and_then}
 use Rattle.table.specs.declared.Table.{Table}
 use Rattle.row.specs.Check.{check_row}
-use Rattle.page.specs.declared.PageRead.{PageRead}
-use Rattle.page.specs.declared.PageRead.TheVariants.{Counted, Refused}
 use Rattle.page.specs.declared.Row.{Row}
 use Rattle.page.specs.Header.{number_agrees, type_agrees, rowless, entries, num_rows}
 use Rattle.page.specs.Index.{index_size, row_start, present_from}
@@ -75,11 +73,6 @@ read_page number table page =
 abbrev pub row_count : Answer Rows → Answer ℕ
 row_count (given rows) = given (length rows)
 row_count (refused f) = refused f
-
--- the answer for each case of the code's enum
-abbrev pub page_read_of : PageRead → Answer ℕ
-page_read_of (Counted rows) = given rows
-page_read_of (Refused refusal) = refused (fault_of refusal)
 
 -- the places of these entries' rows on a page that starts at a byte of the image
 abbrev pub entry_places : (start : ℕ) (page : Bytes) (entries : List ℕ) → Places

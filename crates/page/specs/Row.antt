@@ -1,11 +1,9 @@
 -- Rule 5.19: row k of a page, counted from 0 among its present rows, in the order of the index.
-use Rattle.std.specs.Prelude.{ℕ, ◌+◌, ◌≤◌}
+use Rattle.std.specs.Prelude.{ℕ, ◌+◌, ◌≤◌, Result, Ok, Err}
 use Rattle.lists.specs.Alias.{Bytes}
 use Rattle.lists.specs.Nth.{Nth, element, past, nth}
 use Rattle.format.specs.Size.{heap_start}
 use Rattle.page.specs.declared.Row.{Row}
-use Rattle.page.specs.declared.RowAt.{RowAt}
-use Rattle.page.specs.declared.RowAt.TheVariants.{Found, Past}
 use Rattle.page.specs.Found.{no_row}
 use Rattle.page.specs.Read.{page_rows}
 
@@ -13,12 +11,12 @@ use Rattle.page.specs.Read.{page_rows}
 abbrev pub page_row : (number : ℕ) (page : Bytes) (k : ℕ) → Nth Row
 page_row number page k = nth no_row (page_rows number page) k 0
 
--- the answer for each case of the code's enum
-abbrev pub row_at_of : RowAt → Nth Row
-row_at_of (Found row) = element row
-row_at_of (Past rows) = past rows
+-- what a result of the code stands for
+abbrev pub row_at_of : Result Row ℕ → Nth Row
+row_at_of (Ok row) = element row
+row_at_of (Err rows) = past rows
 
 -- an offset has two bytes, so a row starts at most so far into its page
-abbrev pub Near : RowAt → Type 0
-Near (Found row) = row.start ≤ heap_start + 0xffff
-Near (Past rows) = Unit {0}
+abbrev pub Near : Result Row ℕ → Type 0
+Near (Ok row) = row.start ≤ heap_start + 0xffff
+Near (Err rows) = Unit {0}

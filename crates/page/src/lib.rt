@@ -3,6 +3,7 @@
 
 ghost use Rattle.std.specs.Prelude.{◌≡◌, ◌+◌, ◌-◌, ◌*◌, ◌/◌, ◌%◌, ◌^◌, ◌<◌, ◌≤◌, length, set, drop};
 ghost use Rattle.number.specs.Number.{le16};
+ghost use Rattle.refusal.specs.Answer.{answer_of};
 ghost use Rattle.format.specs.Size.{heap_start, group_size};
 ghost use Rattle.lists.specs.Write.{written};
 ghost use Rattle.lists.specs.Nth.{nth};
@@ -10,40 +11,26 @@ ghost use Rattle.row.specs.Check.{check_row, check_of};
 ghost use Rattle.page.specs.Header.{next_page, number_agrees, type_agrees, rowless, entries, num_rows};
 ghost use Rattle.page.specs.Index.{rest_size, index_size, flags_at, present, row_start, present_from};
 ghost use Rattle.page.specs.Found.{row_of, no_row};
-ghost use Rattle.page.specs.Read.{index_good, before_index, judged, entry_places, row_places, read_page, row_count, page_read_of};
+ghost use Rattle.page.specs.Read.{index_good, before_index, judged, entry_places, row_places, read_page, row_count};
 ghost use Rattle.page.specs.Row.{page_row, row_at_of, Near};
-ghost use Rattle.page.specs.OneRow.{read_row, row_read_of};
-ghost use Rattle.page.specs.Private.{row_index, entries_read, group_ones, tested_index, tested_of, rows_from, checked_count, judged_at};
+ghost use Rattle.page.specs.OneRow.{read_row};
+ghost use Rattle.page.specs.Private.{row_index, entries_read, group_ones, tested_index, rows_from, checked_count, judged_at};
 
 use format::{Page, RowGroup};
 use refusal::Refusal;
-use row::Check;
+use row::RowError;
 use table::Table;
 
-// What reading a page finds: the number of its rows, or the refusal.
-#[derive(Drop)]
-pub enum PageRead {
-    Counted(usize),
-    Refused(Refusal),
-}
-
 // A row: its page's number, its entry in the page's row index, and where it starts in the page.
-#[derive(Clone, Copy)]
+#[derive(Clone, Copy, Debug, PartialEq, Eq)]
 pub struct Row {
     pub page: u32,
     pub entry: u16,
     pub start: u32,
 }
 
-// What reading one row finds: the row, which is good, or the refusal.
-#[derive(Drop)]
-pub enum RowRead {
-    Good(Row),
-    Refused(Refusal),
-}
-
 // A page's row index.
-#[derive(Drop)]
+#[derive(Clone, Copy, Debug, PartialEq, Eq)]
 struct RowIndex {
     // The page has flag 40, and so no rows.
     rowless: bool,
@@ -52,21 +39,6 @@ struct RowIndex {
     good: bool,
     // Where the index begins, 0 if it is longer than the page.
     start: usize,
-}
-
-// What the tests of a page leave: its row index, which is good, or that it has flag 40; or the refusal.
-#[derive(Drop)]
-enum PageTested {
-    Index(RowIndex),
-    Rowless,
-    Refused(Refusal),
-}
-
-// Row k of a page or of a chain, or how many rows there are.
-#[derive(Drop)]
-pub enum RowAt {
-    Found(Row),
-    Past(usize),
 }
 
 // Whether the page names itself.
@@ -80,7 +52,7 @@ fn number_agrees(page: &[u8], number: u32) -> bool
 fn type_agrees(page: &[u8], table: Table) -> bool
     ensures { result ≡ type_agrees table page.now }
 {
-    number::u32_at(page, 0x08) == table.number()
+    number::u32_at(page, 0x08) == u32::from(table)
 }
 
 // Whether the page has flag 40, and so no rows.
@@ -209,24 +181,25 @@ fn entries_read(index: RowIndex) -> u16
     if index.good { index.entries } else { 0 }
 }
 
-// The tests of a page: its number, its type, flag 40 and its row index.
-fn test_page(page: &[u8], number: u32, table: Table) -> PageTested
-    ensures { tested_of result ≡ tested_index number table page.now }
+// The tests of a page: its number, its type, flag 40 and its row index. They leave the row index, which is good, or none where
+// the page has flag 40.
+fn test_page(page: &[u8], number: u32, table: Table) -> Result<Option<RowIndex>, Refusal>
+    ensures { answer_of result ≡ tested_index number table page.now }
 {
     if !number_agrees(page, number) {
-        return PageTested::Refused(Refusal::PageNumber(number));
+        return Err(Refusal::PageNumber(number));
     }
     if !type_agrees(page, table) {
-        return PageTested::Refused(Refusal::PageType(number));
+        return Err(Refusal::PageType(number));
     }
     let index = row_index(page);
     if index.rowless {
-        return PageTested::Rowless;
+        return Ok(None);
     }
     if !index.good {
-        return PageTested::Refused(Refusal::RowIndex(number));
+        return Err(Refusal::RowIndex(number));
     }
-    PageTested::Index(index)
+    Ok(Some(index))
 }
 
 // Where the row of entry i starts in the page.
@@ -254,68 +227,55 @@ fn row_of(page: &[u8], number: u32, i: u16) -> Row
 }
 
 // The check of the row at a start, among the bytes before the row index.
-fn check_at(before: &[u8], start: usize, table: Table) -> Check
+fn check_at(before: &[u8], start: usize, table: Table) -> Result<(), RowError>
     ensures { check_of result ≡ check_row table (drop start before.now) }
 {
     if before.len() < start {
-        return Check::RowFault;
+        return Err(RowError::Row);
     }
     row::check_row(table, &before[start..])
 }
 
 // The check of a row, whose page and entry 14 and 15 carry.
-fn judge_row(before: &[u8], table: Table, row: Row) -> RowRead
-    ensures { row_read_of result ≡ judged table before.now row }
+fn judge_row(before: &[u8], table: Table, row: Row) -> Result<Row, Refusal>
+    ensures { answer_of result ≡ judged table before.now row }
 {
-    let check = check_at(before, row.start as usize, table);
-    match check {
-        Check::Good => RowRead::Good(row),
-        Check::RowFault => RowRead::Refused(Refusal::RowShort {
-            page: row.page,
-            entry: row.entry,
-        }),
-        Check::TextFault => RowRead::Refused(Refusal::TextFault {
-            page: row.page,
-            entry: row.entry,
-        }),
+    let Row { page, entry, start } = row;
+    match check_at(before, start as usize, table) {
+        Ok(()) => Ok(row),
+        Err(RowError::Row) => Err(Refusal::RowShort { page, entry }),
+        Err(RowError::Text) => Err(Refusal::TextFault { page, entry }),
     }
 }
 
 // Checks the present rows among n entries and counts them.
-fn read_rows(page: &[u8], before: &[u8], number: u32, table: Table, n: u16) -> PageRead
+fn read_rows(
+    page: &[u8],
+    before: &[u8],
+    number: u32,
+    table: Table,
+    n: u16,
+) -> Result<usize, Refusal>
     requires { index_size n ≤ length page.now }
-    ensures { page_read_of result ≡ checked_count table before.now (rows_from number page.now n 0) }
+    ensures { answer_of result ≡ checked_count table before.now (rows_from number page.now n 0) }
 {
-    let mut i: u16 = 0;
     let mut found: usize = 0;
-    while i < n {
+    for i in 0..n {
         if is_present(page, i) {
-            let judged = judge_row(before, table, row_of(page, number, i));
-            match judged {
-                RowRead::Good(_) => {
-                    found += 1;
-                }
-                RowRead::Refused(refusal) => {
-                    return PageRead::Refused(refusal);
-                }
-            }
+            judge_row(before, table, row_of(page, number, i))?;
+            found += 1;
         }
-        i += 1;
     }
-    PageRead::Counted(found)
+    Ok(found)
 }
 
 // The number of the page's rows, or the refusal. The places of the rows are written by fill.
-pub fn read(page: &[u8], number: u32, table: Table) -> PageRead
-    ensures { page_read_of result ≡ row_count (read_page number table page.now) }
+pub fn read(page: &[u8], number: u32, table: Table) -> Result<usize, Refusal>
+    ensures { answer_of result ≡ row_count (read_page number table page.now) }
 {
-    let tested = test_page(page, number, table);
-    match tested {
-        PageTested::Index(index) => {
-            read_rows(page, &page[..index.start], number, table, index.entries)
-        }
-        PageTested::Rowless => PageRead::Counted(0),
-        PageTested::Refused(refusal) => PageRead::Refused(refusal),
+    match test_page(page, number, table)? {
+        Some(index) => read_rows(page, &page[..index.start], number, table, index.entries),
+        None => Ok(0),
     }
 }
 
@@ -333,14 +293,12 @@ fn fill_rows(page: &[u8], start: u32, n: u16, list: &mut [u32]) -> usize
     ensures { (result ≡ length (present_from page.now n 0))
         × (list.new ≡ written list.old (entry_places start page.now (present_from page.now n 0))) }
 {
-    let mut entry: u16 = 0;
     let mut at: usize = 0;
-    while entry < n {
+    for entry in 0..n {
         if is_present(page, entry) {
             put(list, at, start + (row_start(page, entry) as u32));
             at += 1;
         }
-        entry += 1;
     }
     at
 }
@@ -358,59 +316,66 @@ pub fn fill(page: &[u8], start: u32, list: &mut [u32]) -> usize
 }
 
 // Finds row k among the present rows of n entries.
-fn find_row(page: &[u8], number: u32, n: u16, k: usize) -> RowAt
+fn find_row(page: &[u8], number: u32, n: u16, k: usize) -> Result<Row, usize>
     requires { index_size n ≤ length page.now }
     ensures { (row_at_of result ≡ nth no_row (rows_from number page.now n 0) k 0) × Near result }
 {
-    let mut i: u16 = 0;
     let mut found: usize = 0;
-    while i < n {
+    for i in 0..n {
         if is_present(page, i) {
             if found == k {
-                return RowAt::Found(row_of(page, number, i));
+                return Ok(row_of(page, number, i));
             }
             found += 1;
         }
-        i += 1;
     }
-    RowAt::Past(found)
+    Err(found)
 }
 
-// Row k of a page of this number, counted from 0 among its present rows.
-pub fn row_at(page: &[u8], number: u32, k: usize) -> RowAt
+// Row k of a page of this number, counted from 0 among its present rows, or how many rows there are.
+pub fn row_at(page: &[u8], number: u32, k: usize) -> Result<Row, usize>
     ensures { (row_at_of result ≡ page_row number page.now k) × Near result }
 {
     find_row(page, number, entries_read(row_index(page)), k)
 }
 
 // The check of the row that was found for a rank, where it starts at a place of the page.
-fn judge_found(before: &[u8], table: Table, start: u32, found: RowAt) -> RowRead
-    ensures { row_read_of result ≡ judged_at table before.now start (row_at_of found) }
+fn judge_found(
+    before: &[u8],
+    table: Table,
+    start: u32,
+    found: Result<Row, usize>,
+) -> Result<Row, Refusal>
+    ensures { answer_of result ≡ judged_at table before.now start (row_at_of found) }
 {
     match found {
-        RowAt::Found(row) => {
+        Ok(row) => {
             if row.start != start {
-                return RowRead::Refused(Refusal::NoRow);
+                return Err(Refusal::NoRow);
             }
             judge_row(before, table, row)
         }
-        RowAt::Past(_) => RowRead::Refused(Refusal::NoRow),
+        Err(_) => Err(Refusal::NoRow),
     }
 }
 
 // Reads one row of a page, which is to start at a place of the page and to have a rank among its present rows. No other
 // row is looked at.
-pub fn read_row(page: &[u8], number: u32, table: Table, start: u32, rank: usize) -> RowRead
-    ensures { row_read_of result ≡ read_row number table page.now start rank }
+pub fn read_row(
+    page: &[u8],
+    number: u32,
+    table: Table,
+    start: u32,
+    rank: usize,
+) -> Result<Row, Refusal>
+    ensures { answer_of result ≡ read_row number table page.now start rank }
 {
-    let tested = test_page(page, number, table);
-    match tested {
-        PageTested::Index(index) => {
+    match test_page(page, number, table)? {
+        Some(index) => {
             let found = find_row(page, number, index.entries, rank);
             judge_found(&page[..index.start], table, start, found)
         }
-        PageTested::Rowless => RowRead::Refused(Refusal::NoRow),
-        PageTested::Refused(refusal) => RowRead::Refused(refusal),
+        None => Err(Refusal::NoRow),
     }
 }
 

@@ -23,7 +23,7 @@ use Rattle.table.specs.declared.Table.TheVariants.{Tracks, Genres, Artists, Albu
 use Rattle.table.specs.Table.{slot_count}
 use Rattle.row.specs.declared.Slots.{Slots}
 use Rattle.row.specs.declared.Layout.{Layout}
-use Rattle.row.specs.declared.Layout.TheVariants.{Known, Unknown}
+use Rattle.std.specs.Prelude.{Option, Some, None}
 use Rattle.row.specs.Layout.{artist_layout, row_layout, slots_in}
 use Rattle.row.specs.Check.{check_texts, check_layout, check_row}
 use Rattle.row.specs.Slot.{text_in_slot, layout_text, slot_text}
@@ -49,12 +49,12 @@ pub good_some : (table : Table) (row : Bytes) → check_row table row ≡ given 
 good_some table [] e = absurd (not_refused (sym (empty_row table) ∙ e))
 good_some table (b ∷ row) e = omega arith
 
-pub good_fits : (table : Table) (row : Bytes) (fixed : ℕ) (slots : Slots) → check_layout table row (Known fixed slots) ≡ given tt → fixed ≤ length row
-good_fits table row fixed slots e = on (ltb (length row) fixed) (λ f. absurd (not_refused (rw f at e))) (λ f. ltb-false (length row) fixed f)
+pub good_fits : (table : Table) (row : Bytes) (l : Layout) → check_layout table row (Some l) ≡ given tt → l.fixed ≤ length row
+good_fits table row l e = on (ltb (length row) l.fixed) (λ f. absurd (not_refused (rw f at e))) (λ f. ltb-false (length row) l.fixed f)
 
-good_texts : (table : Table) (row : Bytes) (fixed : ℕ) (slots : Slots) → check_layout table row (Known fixed slots) ≡ given tt
-    → check_texts table row slots (slots_in slots) 0 ≡ given tt
-good_texts table row fixed slots e = on (ltb (length row) fixed) (λ f. absurd (not_refused (rw f at e))) (λ f. rw f at e)
+good_texts : (table : Table) (row : Bytes) (l : Layout) → check_layout table row (Some l) ≡ given tt
+    → check_texts table row l.slots (slots_in l.slots) 0 ≡ given tt
+good_texts table row l e = on (ltb (length row) l.fixed) (λ f. absurd (not_refused (rw f at e))) (λ f. rw f at e)
 
 -- one of the slots that were checked
 texts_given : (table : Table) (row : Bytes) (slots : Slots) (left slot : ℕ) → check_texts table row slots left slot ≡ given tt
@@ -74,8 +74,8 @@ pub good_text : (table : Table) (row : Bytes) (slot : ℕ) → check_row table r
 unfolding check_row slot_text
 good_text table row slot e h = go (row_layout table row) (layout_sound table row) e
   where
-    go : (l : Layout) → SoundLayout table l → check_layout table row l ≡ given tt → fault_in (layout_text table row slot l) ≡ none
-    go (Known fixed slots) sound g =
-        let inside : slot < slots_in slots = rw sound.count h in
-        texts_given table row slots (slots_in slots) 0 (good_texts table row fixed slots g) slot (omega arith) (omega arith)
-    go Unknown sound g = absurd (not_refused g)
+    go : (l : Option Layout) → SoundLayout table l → check_layout table row l ≡ given tt → fault_in (layout_text table row slot l) ≡ none
+    go (Some l) sound g =
+        let inside : slot < slots_in l.slots = rw sound.count h in
+        texts_given table row l.slots (slots_in l.slots) 0 (good_texts table row l g) slot (omega arith) (omega arith)
+    go None sound g = absurd (not_refused g)

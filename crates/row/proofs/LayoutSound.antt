@@ -12,7 +12,7 @@ use Rattle.table.specs.declared.Table.TheVariants.{Tracks, Genres, Artists, Albu
 use Rattle.row.specs.declared.Slots.{Slots}
 use Rattle.row.specs.declared.Slots.TheVariants.{Nothing, Inline, ByteOffset, WordOffsets}
 use Rattle.row.specs.declared.Layout.{Layout}
-use Rattle.row.specs.declared.Layout.TheVariants.{Known, Unknown}
+use Rattle.std.specs.Prelude.{Option, Some, None}
 use Rattle.row.specs.Layout.{artist_layout, row_layout, slots_in}
 use Rattle.table.specs.Table.{slot_count}
 use Rattle.lists.proofs.Choice.{cond_holds}
@@ -42,9 +42,9 @@ pub record Sound (table : Table) (fixed : ℕ) (slots : Slots) : Type 0 where
   pub offsets : OffsetsIn fixed slots
   pub count : slots_in slots ≡ slot_count table
 
-abbrev pub SoundLayout : Table → Layout → Type 0
-SoundLayout table (Known fixed slots) = Sound table fixed slots
-SoundLayout table Unknown = Unit {0}
+abbrev pub SoundLayout : Table → Option Layout → Type 0
+SoundLayout table (Some l) = Sound table l.fixed l.slots
+SoundLayout table None = Unit {0}
 
 artist_sound : (row : Bytes) → SoundLayout Artists (artist_layout row)
 unfolding artist_layout

@@ -23,7 +23,7 @@ use Rattle.table.specs.declared.Table.TheVariants.{Tracks, Genres, Artists, Albu
 use Rattle.row.specs.declared.Slots.{Slots}
 use Rattle.row.specs.declared.Slots.TheVariants.{Nothing, Inline, ByteOffset, WordOffsets}
 use Rattle.row.specs.declared.Layout.{Layout}
-use Rattle.row.specs.declared.Layout.TheVariants.{Known, Unknown}
+use Rattle.std.specs.Prelude.{Option, Some, None}
 use Rattle.row.specs.Layout.{artist_layout, row_layout, slots_in, slot_start}
 use Rattle.row.specs.Check.{check_texts, check_layout, check_row}
 use Rattle.row.specs.Record.{row_record, read_record}
@@ -76,18 +76,18 @@ module _ {fixed : ℕ} {s t : Bytes} (a : Agree (within 0 fixed) s t) where
   n32 at h = le32_agree at (part at 4 h)
 
 -- a layout whose fixed part fits: the fixed part, and each string
-module _ (table : Table) {s t : Bytes} (fixed : ℕ) (slots : Slots) (fits : fixed ≤ length s) (a : Agree (layout_byte table s (Known fixed slots)) s t) where
-  fitting : Agree (λ (i : ℕ). within 0 fixed i || slot_byte table s slots i) s t
-  fitting = agree_less (λ i e. rw (le-ltb (length s) fixed fits) e) a
+module _ (table : Table) {s t : Bytes} (l : Layout) (fits : l.fixed ≤ length s) (a : Agree (layout_byte table s (Some l)) s t) where
+  fitting : Agree (λ (i : ℕ). within 0 l.fixed i || slot_byte table s l.slots i) s t
+  fitting = agree_less (λ i e. rw (le-ltb (length s) l.fixed fits) e) a
 
-  fixed_agree : Agree (within 0 fixed) s t
+  fixed_agree : Agree (within 0 l.fixed) s t
   fixed_agree = agree_less (λ i e. or_left _ e) fitting
 
-  string_agree : (slot : ℕ) → slot < slots_in slots → Agree (text_byte table slot s (slot_start slots s slot)) s t
+  string_agree : (slot : ℕ) → slot < slots_in l.slots → Agree (text_byte table slot s (slot_start l.slots s slot)) s t
   unfolding slot_byte
   string_agree slot h =
       agree_less
-      (λ i e. or_right (within 0 fixed i) (any_at (λ (j : ℕ). text_byte table j s (slot_start slots s j) i) (slots_in slots) 0 slot (omega arith) (omega arith) e))
+      (λ i e. or_right (within 0 l.fixed i) (any_at (λ (j : ℕ). text_byte table j s (slot_start l.slots s j) i) (slots_in l.slots) 0 slot (omega arith) (omega arith) e))
       fitting
 
 start_agree : {s t : Bytes} (fixed : ℕ) (slots : Slots) → Agree (within 0 fixed) s t → OffsetsIn fixed slots
@@ -97,38 +97,38 @@ start_agree fixed (Inline at) a inside slot h = refl
 start_agree fixed (ByteOffset at) a inside slot h = n8 a at (omega arith)
 start_agree fixed (WordOffsets count at) a inside slot h = n16 a (at + 2 * slot) (omega arith)
 
-module _ (table : Table) {s t : Bytes} (fixed : ℕ) (slots : Slots) (fits : fixed ≤ length s) (a : Agree (layout_byte table s (Known fixed slots)) s t)
-    (inside : OffsetsIn fixed slots) where
-  slot_same : (slot : ℕ) → text_in_slot table s slots slot ≡ text_in_slot table t slots slot
-  slot_same slot = cond_agree (leb (slots_in slots) slot) (λ _. refl) (λ e. held slot (leb-false (slots_in slots) slot e))
+module _ (table : Table) {s t : Bytes} (l : Layout) (fits : l.fixed ≤ length s) (a : Agree (layout_byte table s (Some l)) s t)
+    (inside : OffsetsIn l.fixed l.slots) where
+  slot_same : (slot : ℕ) → text_in_slot table s l.slots slot ≡ text_in_slot table t l.slots slot
+  slot_same slot = cond_agree (leb (slots_in l.slots) slot) (λ _. refl) (λ e. held slot (leb-false (slots_in l.slots) slot e))
     where
-      held : (slot : ℕ) → slot < slots_in slots → read_text table slot s (slot_start slots s slot) ≡ read_text table slot t (slot_start slots t slot)
+      held : (slot : ℕ) → slot < slots_in l.slots → read_text table slot s (slot_start l.slots s slot) ≡ read_text table slot t (slot_start l.slots t slot)
       held slot h =
-          text_agree table slot (slot_start slots s slot) (string_agree table fixed slots fits a slot h)
-          ∙ ap (read_text table slot t) (start_agree fixed slots (fixed_agree table fixed slots fits a) inside slot h)
+          text_agree table slot (slot_start l.slots s slot) (string_agree table l fits a slot h)
+          ∙ ap (read_text table slot t) (start_agree l.fixed l.slots (fixed_agree table l fits a) inside slot h)
 
-  texts_same : (left slot : ℕ) → check_texts table s slots left slot ≡ check_texts table t slots left slot
+  texts_same : (left slot : ℕ) → check_texts table s l.slots left slot ≡ check_texts table t l.slots left slot
   unfolding check_texts
   texts_same zero slot = refl
   texts_same (suc left) slot = rw (slot_same slot, texts_same left (slot + 1))
 
-check-layout : {s t : Bytes} (table : Table) (l : Layout) → SoundLayout table l → Agree (layout_byte table s l) s t → check_layout table s l ≡ check_layout table t l
-check-layout {s} table (Known fixed slots) sound a =
+check-layout : {s t : Bytes} (table : Table) (l : Option Layout) → SoundLayout table l → Agree (layout_byte table s l) s t → check_layout table s l ≡ check_layout table t l
+check-layout {s} table (Some l) sound a =
     rw (← a.long)
-    (cond_agree (ltb (length s) fixed) (λ _. refl)
-    (λ e. texts_same table fixed slots (ltb-false (length s) fixed e) a sound.offsets (slots_in slots) 0))
-check-layout table Unknown sound a = refl
+    (cond_agree (ltb (length s) l.fixed) (λ _. refl)
+    (λ e. texts_same table l (ltb-false (length s) l.fixed e) a sound.offsets (slots_in l.slots) 0))
+check-layout table None sound a = refl
 
 pub check_agree : (table : Table) {s t : Bytes} → Agree (row_byte table s) s t → check_row table s ≡ check_row table t
 unfolding check_row
 check_agree table {s} {t} a =
     check-layout table (row_layout table s) (layout_sound table s) (layout_bytes table a) ∙ ap (check_layout table t) (layout_agree table a)
 
-text_layout : {s t : Bytes} (table : Table) (slot : ℕ) (l : Layout) → SoundLayout table l → check_layout table s l ≡ given tt → Agree (layout_byte table s l) s t
+text_layout : {s t : Bytes} (table : Table) (slot : ℕ) (l : Option Layout) → SoundLayout table l → check_layout table s l ≡ given tt → Agree (layout_byte table s l) s t
     → layout_text table s slot l ≡ layout_text table t slot l
-text_layout {s} table slot (Known fixed slots) sound good a =
-    slot_same table fixed slots (good_fits table s fixed slots good) a sound.offsets slot
-text_layout table slot Unknown sound good a = refl
+text_layout {s} table slot (Some l) sound good a =
+    slot_same table l (good_fits table s l good) a sound.offsets slot
+text_layout table slot None sound good a = refl
 
 pub slot_agree : (table : Table) {s t : Bytes} → check_row table s ≡ given tt → Agree (row_byte table s) s t
     → (slot : ℕ) → slot_text table s slot ≡ slot_text table t slot
@@ -140,11 +140,11 @@ numbers_agree : (table : Table) {s t : Bytes} → check_row table s ≡ given tt
 unfolding check_row
 numbers_agree table {s} {t} good a = go (row_layout table s) (layout_sound table s) good (layout_bytes table a)
   where
-    go : (l : Layout) → SoundLayout table l → check_layout table s l ≡ given tt → Agree (layout_byte table s l) s t → Agree (within 0 (numbers_part table)) s t
-    go (Known fixed slots) sound g b =
-        agree_less (λ i e. within_less 0 (numbers_part table) 0 fixed i (omega arith) (omega (arith, sound.numbers)) e)
-        (fixed_agree table fixed slots (good_fits table s fixed slots g) b)
-    go Unknown sound g b = never (cc)
+    go : (l : Option Layout) → SoundLayout table l → check_layout table s l ≡ given tt → Agree (layout_byte table s l) s t → Agree (within 0 (numbers_part table)) s t
+    go (Some l) sound g b =
+        agree_less (λ i e. within_less 0 (numbers_part table) 0 l.fixed i (omega arith) (omega (arith, sound.numbers)) e)
+        (fixed_agree table l (good_fits table s l g) b)
+    go None sound g b = never (cc)
 
 pub record_agree : (table : Table) {s t : Bytes} → check_row table s ≡ given tt → Agree (row_byte table s) s t → read_record table s ≡ read_record table t
 record_agree table {s} {t} good a = go table (numbers_agree table good a)

@@ -10,7 +10,7 @@ use Rattle.text.specs.Text.{TextAt}
 use Rattle.table.specs.declared.Table.{Table}
 use Rattle.row.specs.declared.Slots.{Slots}
 use Rattle.row.specs.declared.Layout.{Layout}
-use Rattle.row.specs.declared.Layout.TheVariants.{Known, Unknown}
+use Rattle.std.specs.Prelude.{Option, Some, None}
 use Rattle.row.specs.Layout.{row_layout, slots_in}
 use Rattle.row.specs.Slot.{text_in_slot}
 use Rattle.row.specs.Check.{check_texts, check_layout, check_row}
@@ -31,10 +31,10 @@ texts_faults table row slots (suc left) slot =
     text_then row (text_in_slot table row slots slot) (check_texts table row slots left (slot + 1)) (text_within table row slots slot)
     (texts_faults table row slots left (slot + 1))
 
-layout_faults : (table : Table) (row : Bytes) (l : Layout) → RowFaults (check_layout table row l)
-layout_faults table row (Known fixed slots) =
-    cond_holds RowFaults (ltb (length row) fixed) (λ _. omega arith) (λ _. texts_faults table row slots (slots_in slots) 0)
-layout_faults table row Unknown = omega arith
+layout_faults : (table : Table) (row : Bytes) (l : Option Layout) → RowFaults (check_layout table row l)
+layout_faults table row (Some l) =
+    cond_holds RowFaults (ltb (length row) l.fixed) (λ _. omega arith) (λ _. texts_faults table row l.slots (slots_in l.slots) 0)
+layout_faults table row None = omega arith
 
 pub row_faults : (table : Table) (row : Bytes) → RowFaults (check_row table row)
 unfolding check_row

@@ -12,7 +12,7 @@ use Rattle.text.proofs.TextInside.{Inside, read_inside}
 use Rattle.table.specs.declared.Table.{Table}
 use Rattle.row.specs.declared.Slots.{Slots}
 use Rattle.row.specs.declared.Layout.{Layout}
-use Rattle.row.specs.declared.Layout.TheVariants.{Known, Unknown}
+use Rattle.std.specs.Prelude.{Option, Some, None}
 use Rattle.row.specs.Layout.{row_layout, slots_in, slot_start}
 use Rattle.row.specs.Slot.{text_in_slot, layout_text, slot_text}
 
@@ -29,9 +29,9 @@ text_within table row slots slot =
     let at = slot_start slots row slot in
     cond_holds (Within row) (leb (slots_in slots) slot) (λ _. refl) (λ _. weaken row at (read_text table slot row at) (read_inside table slot row at))
 
-layout_within : (table : Table) (row : Bytes) (slot : ℕ) (l : Layout) → Within row (layout_text table row slot l)
-layout_within table row slot (Known fixed slots) = text_within table row slots slot
-layout_within table row slot Unknown = refl
+layout_within : (table : Table) (row : Bytes) (slot : ℕ) (l : Option Layout) → Within row (layout_text table row slot l)
+layout_within table row slot (Some l) = text_within table row l.slots slot
+layout_within table row slot None = refl
 
 pub slot_inside : (table : Table) (row : Bytes) (slot : ℕ) {text : TextAt} → given text ≡ slot_text table row slot → text.place + text.len ≤ length row
 unfolding slot_text

@@ -5,12 +5,9 @@ use native.Mathlib.Nat.{sub-zero}
 use native.Mathlib.Omega.{arith}
 use Rattle.lists.specs.Alias.{Bytes}
 use Rattle.lists.proofs.Choice.{left_step}
-use Rattle.refusal.specs.Fault.{fault}
+use Rattle.refusal.specs.declared.Fault.{Fault}
 use Rattle.refusal.specs.Answer.{given, refused, and_then}
-use Rattle.text.specs.declared.Encoding.{Encoding}
-use Rattle.text.specs.declared.Text.{Text}
-use Rattle.text.specs.declared.Text.TheVariants.{At, Malformed}
-use Rattle.text.specs.Text.{text_of}
+use Rattle.text.specs.Text.{TextAt}
 use Rattle.table.specs.declared.Table.{Table}
 use Rattle.row.specs.declared.Slots.{Slots}
 use Rattle.row.specs.Slot.{text_in_slot}
@@ -29,14 +26,12 @@ module _ {table : Table} {row : Bytes} {slots : Slots} {n slot : ℕ} (c : Check
   end h = let z : n - slot ≡ 0 = omega arith in sym (c.rest ∙ rw z)
 
   module _ (h : slot < n) where
-    turn : (found : Text) → text_of found ≡ text_in_slot table row slots slot
-        → check_texts table row slots n 0 ≡ and_then (text_of found) (λ _. check_texts table row slots (n - (slot + 1)) (slot + 1))
+    turn : check_texts table row slots n 0 ≡ and_then (text_in_slot table row slots slot) (λ _. check_texts table row slots (n - (slot + 1)) (slot + 1))
     unfolding check_texts
-    turn found t = c.rest ∙ rw (left_step h, ← t)
+    turn = c.rest ∙ rw (left_step h)
 
-    pub good : {found : Text} {place len : ℕ} {encoding : Encoding} → found ≡ At place len encoding → text_of found ≡ text_in_slot table row slots slot
-        → Checked table row slots n (slot + 1)
-    good {found} e t = record { inside = omega arith; rest = turn found t ∙ rw e }
+    pub good : {text : TextAt} → given text ≡ text_in_slot table row slots slot → Checked table row slots n (slot + 1)
+    good e = record { inside = omega arith; rest = turn ∙ rw (← e) }
 
-    pub bad : {found : Text} → found ≡ Malformed → text_of found ≡ text_in_slot table row slots slot → refused (fault 15 0) ≡ check_texts table row slots n 0
-    bad {found} e t = sym (turn found t ∙ rw e)
+    pub bad : {fault : Fault} → refused fault ≡ text_in_slot table row slots slot → refused fault ≡ check_texts table row slots n 0
+    bad e = sym (turn ∙ rw (← e))

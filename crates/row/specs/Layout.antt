@@ -1,5 +1,5 @@
 -- Rules 5.11 to 5.13: fixed parts and strings by table. A row is its own part of the page, from its start to where the row index begins.
-use Rattle.std.specs.Prelude.{cond, ℕ, ◌+◌, ◌*◌, length, ltb, eqb}
+use Rattle.std.specs.Prelude.{cond, ℕ, ◌+◌, ◌*◌, length, ltb, eqb, Option, Some, None}
 use Rattle.lists.specs.Alias.{Bytes}
 use Rattle.number.specs.Number.{byte_at, le16}
 use Rattle.table.specs.declared.Table.{Table}
@@ -7,27 +7,29 @@ use Rattle.table.specs.declared.Table.TheVariants.{Tracks, Genres, Artists, Albu
 use Rattle.row.specs.declared.Slots.{Slots}
 use Rattle.row.specs.declared.Slots.TheVariants.{Nothing, Inline, ByteOffset, WordOffsets}
 use Rattle.row.specs.declared.Layout.{Layout}
-use Rattle.row.specs.declared.Layout.TheVariants.{Known, Unknown}
+
+abbrev pub layout_with : (fixed : ℕ) (slots : Slots) → Layout
+layout_with fixed slots = record { fixed = fixed; slots = slots }
 
 -- Rule 5.12: `0a` bytes, then the subtype at `00`.
-unfoldable pub artist_layout : (row : Bytes) → Layout
+unfoldable pub artist_layout : (row : Bytes) → Option Layout
 artist_layout row =
-    cond (ltb (length row) 0x0a) Unknown
-    (cond (eqb (le16 row 0x00) 0x0060) (Known 0x0a (ByteOffset 0x09))
-    (cond (eqb (le16 row 0x00) 0x0064) (Known 0x0c (WordOffsets 1 0x0a)) Unknown))
+    cond (ltb (length row) 0x0a) None
+    (cond (eqb (le16 row 0x00) 0x0060) (Some (layout_with 0x0a (ByteOffset 0x09)))
+    (cond (eqb (le16 row 0x00) 0x0064) (Some (layout_with 0x0c (WordOffsets 1 0x0a))) None))
 
 -- Rule 5.11: fixed part and strings, table by table.
-abbrev pub row_layout : (table : Table) (row : Bytes) → Layout
-row_layout Tracks row = Known 0x88 (WordOffsets 21 0x5e)
-row_layout Genres row = Known 0x04 (Inline 0x04)
+abbrev pub row_layout : (table : Table) (row : Bytes) → Option Layout
+row_layout Tracks row = Some (layout_with 0x88 (WordOffsets 21 0x5e))
+row_layout Genres row = Some (layout_with 0x04 (Inline 0x04))
 row_layout Artists row = artist_layout row
-row_layout Albums row = Known 0x16 (ByteOffset 0x15)
-row_layout Labels row = Known 0x04 (Inline 0x04)
-row_layout Keys row = Known 0x08 (Inline 0x08)
-row_layout Colors row = Known 0x08 (Inline 0x08)
-row_layout PlaylistTree row = Known 0x14 (Inline 0x14)
-row_layout PlaylistEntries row = Known 0x0c Nothing
-row_layout Artwork row = Known 0x04 (Inline 0x04)
+row_layout Albums row = Some (layout_with 0x16 (ByteOffset 0x15))
+row_layout Labels row = Some (layout_with 0x04 (Inline 0x04))
+row_layout Keys row = Some (layout_with 0x08 (Inline 0x08))
+row_layout Colors row = Some (layout_with 0x08 (Inline 0x08))
+row_layout PlaylistTree row = Some (layout_with 0x14 (Inline 0x14))
+row_layout PlaylistEntries row = Some (layout_with 0x0c Nothing)
+row_layout Artwork row = Some (layout_with 0x04 (Inline 0x04))
 
 -- the number of slots
 abbrev pub slots_in : Slots → ℕ

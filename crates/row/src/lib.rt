@@ -5,7 +5,7 @@
 ghost use Rattle.std.specs.Prelude.{◌≡◌, ◌+◌, ◌*◌};
 ghost use Rattle.number.specs.Number.{le16};
 ghost use Rattle.text.specs.Text.{text_of};
-ghost use Rattle.row.specs.Layout.{row_layout, artist_layout, slots_in};
+ghost use Rattle.row.specs.Layout.{layout_with, row_layout, artist_layout, slots_in};
 ghost use Rattle.row.specs.Check.{check_texts, check_row, check_of};
 ghost use Rattle.row.specs.Record.{track_numbers, read_record, track_of, record_of};
 ghost use Rattle.row.specs.Slot.{text_in_slot, slot_text};
@@ -14,7 +14,7 @@ use table::Table;
 use text::Text;
 
 // Where the offsets of a row's strings stand.
-#[derive(Clone, Copy)]
+#[derive(Clone, Copy, Debug, PartialEq, Eq)]
 pub enum Slots {
     Nothing,
     // One string, at this place of the row.
@@ -25,25 +25,24 @@ pub enum Slots {
     WordOffsets(u8, u8),
 }
 
-// A row's fixed part in bytes and its strings; unknown for an artist row of fewer than 0a bytes or of no known subtype.
-#[derive(Drop)]
-pub enum Layout {
-    Known(usize, Slots),
-    Unknown,
+// A row's fixed part in bytes and its strings.
+#[derive(Clone, Copy, Debug, PartialEq, Eq)]
+pub struct Layout {
+    pub fixed: usize,
+    pub slots: Slots,
 }
 
-// What the check of a row finds.
-#[derive(Drop)]
-pub enum Check {
-    Good,
+// What the check of a row refuses.
+#[derive(Clone, Copy, Debug, PartialEq, Eq)]
+pub enum RowError {
     // The fixed part does not fit, or the artist subtype is unknown: 14.
-    RowFault,
+    Row,
     // A string is malformed or outside: 15.
-    TextFault,
+    Text,
 }
 
 // The numbers of a track, under their published names.
-#[derive(Drop)]
+#[derive(Clone, Copy, Debug, PartialEq, Eq)]
 pub struct Track {
     pub sample_rate: u32,
     pub composer_id: u32,
@@ -70,7 +69,7 @@ pub struct Track {
 }
 
 // A row's numbers, a case for each table.
-#[derive(Drop)]
+#[derive(Clone, Copy, Debug, PartialEq, Eq)]
 pub enum Record {
     Track(Track),
     Genre {
@@ -127,30 +126,39 @@ impl Slots {
     }
 }
 
-fn artist_layout(row: &[u8]) -> Layout
+impl Layout {
+    fn new(fixed: usize, slots: Slots) -> Self
+        ensures { result ≡ layout_with fixed slots }
+    {
+        Layout { fixed, slots }
+    }
+}
+
+// The layout of an artist row, by its subtype; none of a row of fewer than 0a bytes.
+fn artist_layout(row: &[u8]) -> Option<Layout>
     ensures { result ≡ artist_layout row.now }
 {
     if row.len() < 0x0a {
-        return Layout::Unknown;
+        return None;
     }
     let subtype = number::u16_at(row, 0x00);
     match subtype {
-        0x0060 => Layout::Known(0x0a, Slots::ByteOffset(0x09)),
-        0x0064 => Layout::Known(0x0c, Slots::WordOffsets(1, 0x0a)),
-        _ => Layout::Unknown,
+        0x0060 => Some(Layout::new(0x0a, Slots::ByteOffset(0x09))),
+        0x0064 => Some(Layout::new(0x0c, Slots::WordOffsets(1, 0x0a))),
+        _ => None,
     }
 }
 
 // The string of a slot. Every string is read here.
-fn text_in_slot(table: Table, row: &[u8], slots: Slots, slot: usize) -> Text
+fn text_in_slot(table: Table, row: &[u8], slots: Slots, slot: usize) -> Option<Text>
     ensures { text_of result ≡ text_in_slot table row.now slots slot }
 {
     let count = slots.count() as usize;
     if count <= slot {
-        return Text::Malformed;
+        return None;
     }
     match slots {
-        Slots::Nothing => Text::Malformed,
+        Slots::Nothing => None,
         Slots::Inline(at) => text::read(table, slot, row, at as usize),
         Slots::ByteOffset(at) => {
             text::read(table, slot, row, number::byte_at(row, at as usize) as usize)
@@ -159,20 +167,15 @@ fn text_in_slot(table: Table, row: &[u8], slots: Slots, slot: usize) -> Text
     }
 }
 
-// Whether the strings of a row are well-formed.
-fn check_texts(table: Table, row: &[u8], slots: Slots) -> Check
+// Checks that the strings of a row are well-formed.
+fn check_texts(table: Table, row: &[u8], slots: Slots) -> Result<(), RowError>
     ensures { check_of result ≡ check_texts table row.now slots (slots_in slots) 0 }
 {
     let count = slots.count() as usize;
-    let mut slot: usize = 0;
-    while slot < count {
-        let found = text_in_slot(table, row, slots, slot);
-        if let Text::Malformed = found {
-            return Check::TextFault;
-        }
-        slot += 1;
+    for slot in 0..count {
+        text_in_slot(table, row, slots, slot).ok_or(RowError::Text)?;
     }
-    Check::Good
+    Ok(())
 }
 
 fn track_record(row: &[u8]) -> Track
@@ -234,48 +237,41 @@ fn entry_record(row: &[u8]) -> Record
     }
 }
 
-fn row_layout(table: Table, row: &[u8]) -> Layout
+// The layout of a table's row; none of an artist row of fewer than 0a bytes or of no known subtype.
+fn row_layout(table: Table, row: &[u8]) -> Option<Layout>
     ensures { result ≡ row_layout table row.now }
 {
     match table {
-        Table::Tracks => Layout::Known(0x88, Slots::WordOffsets(21, 0x5e)),
-        Table::Genres => Layout::Known(0x04, Slots::Inline(0x04)),
+        Table::Tracks => Some(Layout::new(0x88, Slots::WordOffsets(21, 0x5e))),
+        Table::Genres => Some(Layout::new(0x04, Slots::Inline(0x04))),
         Table::Artists => artist_layout(row),
-        Table::Albums => Layout::Known(0x16, Slots::ByteOffset(0x15)),
-        Table::Labels => Layout::Known(0x04, Slots::Inline(0x04)),
-        Table::Keys => Layout::Known(0x08, Slots::Inline(0x08)),
-        Table::Colors => Layout::Known(0x08, Slots::Inline(0x08)),
-        Table::PlaylistTree => Layout::Known(0x14, Slots::Inline(0x14)),
-        Table::PlaylistEntries => Layout::Known(0x0c, Slots::Nothing),
-        Table::Artwork => Layout::Known(0x04, Slots::Inline(0x04)),
+        Table::Albums => Some(Layout::new(0x16, Slots::ByteOffset(0x15))),
+        Table::Labels => Some(Layout::new(0x04, Slots::Inline(0x04))),
+        Table::Keys => Some(Layout::new(0x08, Slots::Inline(0x08))),
+        Table::Colors => Some(Layout::new(0x08, Slots::Inline(0x08))),
+        Table::PlaylistTree => Some(Layout::new(0x14, Slots::Inline(0x14))),
+        Table::PlaylistEntries => Some(Layout::new(0x0c, Slots::Nothing)),
+        Table::Artwork => Some(Layout::new(0x04, Slots::Inline(0x04))),
     }
 }
 
-// Whether a row's fixed part fits and its strings are well-formed.
-pub fn check_row(table: Table, row: &[u8]) -> Check
+// Checks that a row's fixed part fits and that its strings are well-formed.
+pub fn check_row(table: Table, row: &[u8]) -> Result<(), RowError>
     ensures { check_of result ≡ check_row table row.now }
 {
-    let layout = row_layout(table, row);
-    match layout {
-        Layout::Known(fixed, slots) => {
-            if row.len() < fixed {
-                return Check::RowFault;
-            }
-            check_texts(table, row, slots)
-        }
-        Layout::Unknown => Check::RowFault,
+    let layout = row_layout(table, row).ok_or(RowError::Row)?;
+    if row.len() < layout.fixed {
+        return Err(RowError::Row);
     }
+    check_texts(table, row, layout.slots)
 }
 
 // The string of a slot, its place counted from the row's start.
-pub fn slot_text(table: Table, row: &[u8], slot: usize) -> Text
+pub fn slot_text(table: Table, row: &[u8], slot: usize) -> Option<Text>
     ensures { text_of result ≡ slot_text table row.now slot }
 {
-    let layout = row_layout(table, row);
-    match layout {
-        Layout::Known(_, slots) => text_in_slot(table, row, slots, slot),
-        Layout::Unknown => Text::Malformed,
-    }
+    let layout = row_layout(table, row)?;
+    text_in_slot(table, row, layout.slots, slot)
 }
 
 // A row's numbers; bytes that the row does not have count as 0.

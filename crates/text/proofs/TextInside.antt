@@ -1,7 +1,7 @@
 -- Rule 6.6: a text that is found lies inside the part that was read, behind the string's start; a string that is refused is 15.
 use mathlib.Core.Path.{◌≡◌, refl}
 use mathlib.Core.Bool.{true, not, ◌&&◌, ◌||◌}
-use mathlib.Core.Option.{Option, none, some}
+use Rattle.std.specs.Prelude.{Option, Some, None}
 use Prim.Native.Nat.{ℕ, ◌+◌, ◌-◌, ◌<◌, ◌≤◌, ◌%◌}
 use native.Mathlib.Omega.{arith}
 use lib.ListN.{length, drop, length-take, length-drop}
@@ -47,8 +47,8 @@ module _ (s : Bytes) (at : ℕ) where
       short = omega (arith, length-take (at + whole - (at + 5)) (drop (at + 5) s), length-drop (at + 5) s)
 
       go : (len : Option ℕ) → AmongThem part 0 len → Inside s at (code_text (at + 5) len)
-      go (some n) h = omega (arith, short)
-      go none h = refl
+      go (Some n) h = omega (arith, short)
+      go None h = refl
 
   plain_inside : (first whole : ℕ) → at < length s → head_size first ≤ whole → whole ≤ length s - at → Inside s at (plain_text at first whole)
   unfolding plain_text

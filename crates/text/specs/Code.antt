@@ -1,6 +1,5 @@
 -- Rules 6.11 to 6.13: recording codes, strings of kind `90` in slot 0 of a track.
-use Rattle.std.specs.Prelude.{Bool, ◌&&◌, ℕ, ◌+◌, leb, eqb}
-use Rattle.std.proofs.Math.Option.{Option}
+use Rattle.std.specs.Prelude.{Bool, ◌&&◌, ℕ, ◌+◌, leb, eqb, Option}
 use Rattle.lists.specs.Alias.{Bytes}
 use Rattle.lists.specs.Subslice.{subslice}
 use Rattle.table.specs.declared.Table.{Table}

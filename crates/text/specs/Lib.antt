@@ -2,4 +2,3 @@ pub mod Zero
 pub mod Code
 pub mod Text
 pub mod Bytes
-pub mod Private

@@ -1,8 +1,7 @@
 -- Section 6: what the string at an offset of a row's part is. It rests on the numbers of crate number.
 -- s is the row's own part, from the row's start to the row index: to end where the index begins, or before, is to lie inside s.
 -- The page and the entry, which 15 carries, are not known here; reading a page sets them (page/Read `on_row`).
-use Rattle.std.specs.Prelude.{Bool, cond, not, ◌&&◌, ◌||◌, ℕ, ◌+◌, ◌-◌, ◌/◌, ◌%◌, length, leb, eqb}
-use Rattle.std.proofs.Math.Option.{Option, none, some}
+use Rattle.std.specs.Prelude.{Bool, cond, not, ◌&&◌, ◌||◌, ℕ, ◌+◌, ◌-◌, ◌/◌, ◌%◌, length, leb, eqb, Option, Some, None}
 use Rattle.lists.specs.Alias.{Bytes}
 use Rattle.number.specs.Number.{byte_at, le16}
 use Rattle.refusal.specs.Fault.{fault}
@@ -12,7 +11,6 @@ use Rattle.text.specs.Code.{is_code, code_length}
 use Rattle.text.specs.declared.Encoding.{Encoding}
 use Rattle.text.specs.declared.Encoding.TheVariants.{Ascii, Utf16}
 use Rattle.text.specs.declared.Text.{Text}
-use Rattle.text.specs.declared.Text.TheVariants.{At, Malformed}
 
 -- Rule 6.10: a text's first byte, its length in bytes and its encoding.
 pub record TextAt : Type 0 where
@@ -56,8 +54,8 @@ plain_text at first whole =
 
 -- Rule 6.12: the text of a recording code, where its zero byte is found.
 abbrev pub code_text : (place : ℕ) (len : Option ℕ) → Answer TextAt
-code_text place (some len) = given (record { place = place; len = len; encoding = Ascii })
-code_text place none = refused (fault 15 0)
+code_text place (Some len) = given (record { place = place; len = len; encoding = Ascii })
+code_text place None = refused (fault 15 0)
 
 -- Rules 6.11, 6.12, or those of other strings.
 unfoldable pub text_in : (table : Table) (slot : ℕ) (s : Bytes) (at first whole : ℕ) → Answer TextAt
@@ -74,7 +72,7 @@ text_by_kind table slot s at first =
 unfoldable pub read_text : (table : Table) (slot : ℕ) (s : Bytes) (at : ℕ) → Answer TextAt
 read_text table slot s at = refuse_if (leb (length s) at) (fault 15 0) (text_by_kind table slot s at (byte_at s at))
 
--- the answer for each case of the code's enum
-abbrev pub text_of : Text → Answer TextAt
-text_of (At place len encoding) = given (record { place = place; len = len; encoding = encoding })
-text_of Malformed = refused (fault 15 0)
+-- the answer that a text of the code stands for, and 15 where there is none
+abbrev pub text_of : Option Text → Answer TextAt
+text_of (Some text) = given (record { place = text.place; len = text.len; encoding = text.encoding })
+text_of None = refused (fault 15 0)

@@ -7,62 +7,49 @@ ghost use Rattle.number.specs.Number.{byte_at};
 ghost use Rattle.refusal.specs.Answer.{given};
 ghost use Rattle.text.specs.Zero.{first_zero};
 ghost use Rattle.text.specs.Code.{is_code};
-ghost use Rattle.text.specs.Private.{zero_of};
 ghost use Rattle.text.specs.Text.{is_long, is_inside, if_inside, rest_behind, code_text, text_by_kind, read_text, text_of};
 
 use table::Table;
 
-#[derive(Drop)]
+#[derive(Clone, Copy, Debug, PartialEq, Eq)]
 pub enum Encoding {
     Ascii,
     // UTF-16, little-endian.
     Utf16,
 }
 
-// What stands at a string's offset. The text is not decoded.
-#[derive(Drop)]
-pub enum Text {
-    // The text's first byte, its length in bytes and its encoding.
-    At {
-        place: usize,
-        len: usize,
-        encoding: Encoding,
-    },
-    Malformed,
+// A string's text: its first byte, its length in bytes and its encoding. It is not decoded.
+#[derive(Clone, Copy, Debug, PartialEq, Eq)]
+pub struct Text {
+    pub place: usize,
+    pub len: usize,
+    pub encoding: Encoding,
 }
 
-// The place of a zero byte.
-#[derive(Drop)]
-enum Zero {
-    At(usize),
-    Absent,
-}
-
-fn first_zero(bytes: &[u8]) -> Zero
-    ensures { zero_of result ≡ first_zero bytes.now 0 }
+// The place of the first zero byte.
+fn first_zero(bytes: &[u8]) -> Option<usize>
+    ensures { result ≡ first_zero bytes.now 0 }
 {
     let mut i: usize = 0;
     while i < bytes.len() {
         if bytes[i] == 0 {
-            return Zero::At(i);
+            return Some(i);
         }
         i += 1;
     }
-    Zero::Absent
+    None
 }
 
 // A recording code's text, from start to the first zero byte before end.
-fn code(s: &[u8], start: usize, end: usize) -> Text
+fn code(s: &[u8], start: usize, end: usize) -> Option<Text>
     ensures { text_of result ≡ code_text start (first_zero (subslice s.now start end) 0) }
 {
-    match first_zero(lists::subslice(s, start, end)) {
-        Zero::At(len) => Text::At {
-            place: start,
-            len,
-            encoding: Encoding::Ascii,
-        },
-        Zero::Absent => Text::Malformed,
-    }
+    let len = first_zero(lists::subslice(s, start, end))?;
+    Some(Text {
+        place: start,
+        len,
+        encoding: Encoding::Ascii,
+    })
 }
 
 // Whether a string of `whole` bytes has its head and ends inside the part.
@@ -89,56 +76,57 @@ fn is_code(table: Table, slot: usize, s: &[u8], at: usize, whole: usize) -> bool
 }
 
 // A short string of `whole` bytes.
-fn short(s: &[u8], at: usize, whole: usize) -> Text
+fn short(s: &[u8], at: usize, whole: usize) -> Option<Text>
     requires { at < length s.now }
     ensures { text_of result ≡ if_inside s.now at 1 whole (given (rest_behind at 1 whole Encoding.Ascii)) }
 {
     if is_inside(s, at, 1, whole) {
-        Text::At {
+        Some(Text {
             place: at + 1,
             len: whole - 1,
             encoding: Encoding::Ascii,
-        }
+        })
     } else {
-        Text::Malformed
+        None
     }
 }
 
 // A long string: kind `40` or `90`.
-fn long(table: Table, slot: usize, s: &[u8], at: usize, first: u8) -> Text
+fn long(table: Table, slot: usize, s: &[u8], at: usize, first: u8) -> Option<Text>
     requires { (at < length s.now) × (is_long first ≡ true) }
     ensures { text_of result ≡ text_by_kind table slot s.now at first }
 {
     let whole = number::u16_at(s, at + 1) as usize;
     if !is_inside(s, at, 4, whole) {
-        return Text::Malformed;
+        return None;
     }
     if first == 0x40 {
-        return Text::At {
+        return Some(Text {
             place: at + 4,
             len: whole - 4,
             encoding: Encoding::Ascii,
-        };
+        });
     }
     if is_code(table, slot, s, at, whole) {
         return code(s, at + 5, at + whole);
     }
     if whole % 2 == 1 {
-        return Text::Malformed;
+        return None;
     }
-    Text::At {
+    Some(Text {
         place: at + 4,
         len: whole - 4,
         encoding: Encoding::Utf16,
-    }
+    })
 }
 
-// The string at an offset of a row's part, which ends where the row index begins, in this slot of this table.
-pub fn read(table: Table, slot: usize, s: &[u8], at: usize) -> Text
+// The string at an offset of a row's part, which ends where the row index begins, in this slot of this table; none if it is
+// malformed or outside.
+pub fn read(table: Table, slot: usize, s: &[u8], at: usize) -> Option<Text>
     ensures { text_of result ≡ read_text table slot s.now at }
 {
     if s.len() <= at {
-        return Text::Malformed;
+        return None;
     }
     let first = number::byte_at(s, at);
     match first {
@@ -148,7 +136,7 @@ pub fn read(table: Table, slot: usize, s: &[u8], at: usize) -> Text
             if first % 2 == 1 {
                 short(s, at, (first / 2) as usize)
             } else {
-                Text::Malformed
+                None
             }
         }
     }

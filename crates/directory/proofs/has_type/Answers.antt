@@ -1,19 +1,19 @@
--- `directory::has_type` meets its contract, by the invariant of a loop that looks for a pointer (crate `lists`, proofs/Any).
-use mathlib.Core.Path.{refl}
-use borrow.Author.Tests.{eq-eqb, ne_eqb}
-use Rattle.directory.specs.Header.{has_type}
-use Rattle.lists.proofs.Any.{look_begin, look_here, look_next, look_end}
+-- `directory::has_type` meets its contract: `any` over the numbers below n is `any_from`.
+use mathlib.Core.Path.{refl, ◌∙◌}
+use native.Mathlib.Nat.{sub-zero}
+use Prim.Native.Nat.{ℕ}
+use lib.Dec.{eqb}
+use borrow.Author.Rules.{rules}
+use Rattle.std.proofs.lemmas.Iterator.{YieldsList-from_range}
+use Rattle.std.proofs.lemmas.Iterator.Search.{any_from_yields_List}
+use Rattle.directory.specs.Header.{type, has_type}
+use Rattle.lists.proofs.Any.{any_range}
 use Rattle.directory.proofs.has_type.Goals as goal
 
-pub loop-i-init : goal.loop-i-init
-unfolding has_type
-loop-i-init c = look_begin refl
-
-pub returns-then-type_at-t : goal.returns-then-type_at-t
-returns-then-type_at-t c = look_here c.loop-i.invariant c.loop-i-test.true (rw (← c.type_at.ensures) (eq-eqb _ _ c.if-type_at-t.true))
-
-pub loop-i-preserved : goal.loop-i-preserved
-loop-i-preserved c = look_next c.loop-i.invariant c.loop-i-test.true (rw (← c.type_at.ensures) (ne_eqb _ _ c.if-type_at-t.false))
-
 pub returns : goal.returns
-returns c = look_end c.loop-i.invariant c.loop-i-test.false
+unfolding has_type
+returns c =
+    let a = c.args in
+    let test = λ (i : ℕ). eqb (type a.block.now i) a.t in
+    any_from_yields_List test _ _ _ c.any.ensures.ran (YieldsList-from_range 0 a.n a.n refl (sub-zero a.n)) (λ x b q k. search rules)
+    ∙ any_range test a.n 0

@@ -1,10 +1,6 @@
 -- `page::fill_rows` meets its contract, by the loop's invariant `Filling` (proofs/FillLoop).
-use Prim.Native.Nat.{◌-◌}
 use Rattle.page.proofs.FillLoop.{Filling}
 use Rattle.page.proofs.fill_rows.Given as goal
 
 abbrev pub invariant-loop-entry : goal.invariant-loop-entry
 invariant-loop-entry l = Filling l.start l.page l.n l.initial.list l.entry l.at l.list
-
-abbrev pub decreases-loop-entry : goal.decreases-loop-entry
-decreases-loop-entry l = l.n - l.entry

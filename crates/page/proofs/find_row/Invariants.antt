@@ -1,10 +1,6 @@
 -- `page::find_row` meets its contract, by the loop's invariant `Finding` (proofs/RowLoop).
-use Prim.Native.Nat.{◌-◌}
 use Rattle.page.proofs.RowLoop.{Finding}
 use Rattle.page.proofs.find_row.Given as goal
 
 abbrev pub invariant-loop-i : goal.invariant-loop-i
 invariant-loop-i l = Finding l.number l.page l.n l.k l.i l.found
-
-abbrev pub decreases-loop-i : goal.decreases-loop-i
-decreases-loop-i l = l.n - l.i

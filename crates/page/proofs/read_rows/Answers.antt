@@ -1,10 +1,11 @@
 -- `page::read_rows` meets its contract, by the loop's invariant `Reading` (proofs/ReadLoop).
 use mathlib.Core.Path.{sym, ◌∙◌}
 use native.Mathlib.Omega.{arith}
+use Rattle.std.proofs.lemmas.Result.{err_from_is_err_and}
 use Rattle.page.proofs.EntriesInside.{entry_room}
 use Rattle.page.proofs.ReadLoop.{begin, end, absent, good, fault}
 use Rattle.page.proofs.read_rows.Goals as goal
-use Rattle.page.proofs.read_rows.Goals.{then-is_present+in-Good, else-is_present}
+use Rattle.page.proofs.read_rows.Goals.{then-is_present+in_ok-judge_row, else-is_present}
 
 pub loop-i-init : goal.loop-i-init
 loop-i-init c = begin _ _ _ _ _
@@ -15,17 +16,19 @@ is_present-requires c = omega (arith, entry_room _ _ c.loop-i-test.true)
 pub row_of-requires : goal.row_of-requires
 row_of-requires c = omega (arith, entry_room _ _ c.loop-i-test.true)
 
-pub returns-in-Refused : goal.returns-in-Refused
-returns-in-Refused c =
-    fault c.loop-i.invariant c.loop-i-test.true (sym c.is_present.ensures ∙ c.if-is_present.true)
-    c.row_of.ensures.0 c.in-Refused.is c.judge_row-judged.ensures
+pub returns-in_err-judge_row : goal.returns-in_err-judge_row
+returns-in_err-judge_row c =
+    let e = err_from_is_err_and c.from_residual.result c.from_residual.ensures.1 in
+    rw (e.1, e.2)
+    (fault c.loop-i.invariant c.loop-i-test.true (sym c.is_present.ensures ∙ c.if-is_present.true)
+    c.row_of.ensures.0 c.in_err-judge_row.was c.judge_row.ensures)
 
 pub loop-i-preserved : goal.loop-i-preserved
 loop-i-preserved c =
     let inv = c.loop-i.invariant in
     let told = c.is_present.ensures in
     elim c.if-is_present.branch [
-      | then-is_present+in-Good w ↦ rw w.found-is (good inv c.loop-i-test.true (sym told ∙ w.if-is_present.true) w.row_of.ensures.0 w.in-Good.is w.judge_row-judged.ensures)
+      | then-is_present+in_ok-judge_row w ↦ rw w.found-is (good inv c.loop-i-test.true (sym told ∙ w.if-is_present.true) w.row_of.ensures.0 w.in_ok-judge_row.was w.judge_row.ensures)
       | else-is_present w ↦ rw w.found-is (absent inv c.loop-i-test.true (sym told ∙ w.if-is_present.false))
     ]
 

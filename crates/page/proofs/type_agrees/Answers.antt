@@ -4,4 +4,4 @@ use Rattle.page.proofs.type_agrees.Goals as goal
 
 pub returns : goal.returns
 unfolding type_agrees
-returns c = rw (c.u32_at.ensures, c.number.ensures)
+returns c = rw (c.u32_at.ensures, c.from.ensures)

@@ -2,10 +2,10 @@
 use Rattle.row.specs.Slot.{slot_text}
 use Rattle.row.proofs.slot_text.Goals as goal
 
-pub returns-in-Known : goal.returns-in-Known
+pub returns-in_err-layout : goal.returns-in_err-layout
 unfolding slot_text
-returns-in-Known c = rw (← c.row_layout-layout.ensures, c.in-Known.is) c.text_in_slot.ensures
+returns-in_err-layout c = rw (c.from_residual.ensures, ← c.row_layout.ensures, c.in_err-layout.was)
 
-pub returns-in-Unknown : goal.returns-in-Unknown
+pub returns : goal.returns
 unfolding slot_text
-returns-in-Unknown c = rw (← c.row_layout-layout.ensures, c.in-Unknown.is)
+returns c = rw (← c.row_layout.ensures, c.in_ok-layout.was) c.text_in_slot.ensures

@@ -1,8 +1,8 @@
--- `waveform::Wave::new` meets its contract: each arm's number chooses its case of `sort_of`, and any other number none.
+-- `waveform::Wave::try_from` meets its contract: each arm's number chooses its case of `sort_of`, and any other number none.
 use borrow.Author.Rules.{rules}
 use Rattle.lists.proofs.Choice.{tests}
 use Rattle.waveform.specs.Sort.{sort_of}
-use Rattle.waveform.proofs.Wave.new.Goals as goal
+use Rattle.waveform.proofs.WaveTryFromU64.try_from.Goals as goal
 
 pub returns-in-3 : goal.returns-in-3
 unfolding sort_of
