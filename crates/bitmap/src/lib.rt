@@ -24,7 +24,7 @@ pub fn word_count(len: u64) -> u64
 }
 
 // A word of the map, 0 past its end.
-fn word_at(map: &[u64], i: u64) -> u64
+pub fn word_at(map: &[u64], i: u64) -> u64
     ensures { result ≡ word_at map.now i }
 {
     map.get(i as usize).copied().unwrap_or(0)

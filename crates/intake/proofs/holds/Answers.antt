@@ -3,10 +3,10 @@ use Rattle.lists.proofs.Choice.{tests}
 use Rattle.intake.specs.Missing.{held}
 use Rattle.intake.proofs.holds.Goals as goal
 
-pub returns-then-block_count-block : goal.returns-then-block_count-block
+pub returns-then-block-block_count : goal.returns-then-block-block_count
 unfolding held
-returns-then-block_count-block c = search (tests, ← c.block_count.ensures)
+returns-then-block-block_count c = search (tests, ← c.has_bit.ensures, ← c.block_count.ensures)
 
-pub returns : goal.returns
+pub returns-else-block-block_count : goal.returns-else-block-block_count
 unfolding held
-returns c = search (tests, ← c.has_bit.ensures, ← c.block_count.ensures)
+returns-else-block-block_count c = search (tests, ← c.block_count.ensures)
