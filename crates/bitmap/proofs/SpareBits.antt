@@ -2,7 +2,6 @@
 -- above the last block's digit.
 --     spare_clear, clear_spare     `spare_bit` is false exactly when each bit from B on is zero
 --     spare_none              no bit is past the last block where the blocks fill their words
---     spare_past              nor is one set where the map has no such word
 --     spare_word              else the word decides
 -- Rests on proofs/Digit and proofs/BitSet.
 use mathlib.Core.Path.{◌≡◌, sym}
@@ -10,7 +9,6 @@ use mathlib.Core.Bool.{false, not}
 use mathlib.Core.List.{List}
 use Prim.Native.Nat.{ℕ, ◌+◌, ◌-◌, ◌*◌, ◌/◌, ◌%◌, ◌^◌, ◌<◌, ◌≤◌}
 use native.Mathlib.Omega.{arith}
-use lib.ListN.{length}
 use lib.Dec.{eqb}
 use borrow.Author.Tests.{eqb-true, eqb-false}
 use Rattle.bitmap.specs.Words.{block_count, word_count}
@@ -19,7 +17,7 @@ use Rattle.bitmap.specs.Spare.{spare_bit}
 use Rattle.lists.proofs.Choice.{on}
 use Rattle.lists.proofs.Any.{any_none, any_not}
 use Rattle.bitmap.proofs.Digit.{above_zero, zero_above}
-use Rattle.bitmap.proofs.BitSet.{bit_zero, zero_bit, bit_past}
+use Rattle.bitmap.proofs.BitSet.{bit_zero, zero_bit}
 
 module _ (len : ℕ) (map : List ℕ) where
   pub spare_clear : ((b : ℕ) → block_count len ≤ b → b < 64 * word_count len → bit map b ≡ false) → spare_bit len map ≡ false
@@ -33,9 +31,6 @@ module _ (len : ℕ) (map : List ℕ) where
   module _ {blocks : ℕ} (e : blocks ≡ block_count len) where
     pub spare_none : blocks % 64 ≡ 0 → spare_bit len map ≡ false
     spare_none h = spare_clear (λ b l g. absurd (omega arith))
-
-    pub spare_past : length map ≤ blocks / 64 → spare_bit len map ≡ false
-    spare_past h = spare_clear (λ b l g. bit_past map b (omega arith))
 
     pub spare_word : (blocks % 64 ≡ 0 → ⊥) → word_at map (blocks / 64) < 2 ^ 64 → not (eqb (word_at map (blocks / 64) / 2 ^ (blocks % 64)) 0) ≡ spare_bit len map
     spare_word some h =

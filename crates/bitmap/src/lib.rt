@@ -1,10 +1,9 @@
 // The map of a file: a bit for each block, in 64-bit words (rules 1.7 to 1.9, 1.17 and 2.4).
 #![tactic(auto)]
 
-ghost use Rattle.std.specs.Prelude.{◌≡◌, ◌*◌, ◌<◌, ◌≤◌, ◌^◌, length};
-ghost use Rattle.std.specs.Int.Count.{ones};
+ghost use Rattle.std.specs.Prelude.{◌≡◌, ◌<◌, ◌^◌, length};
 ghost use Rattle.bitmap.specs.Words.{block_count, word_count};
-ghost use Rattle.bitmap.specs.Bit.{bit};
+ghost use Rattle.bitmap.specs.Bit.{word_at, bit};
 ghost use Rattle.bitmap.specs.Count.{ones_in, held_count};
 ghost use Rattle.bitmap.specs.Spare.{spare_bit};
 
@@ -21,26 +20,21 @@ pub fn block_count(len: u64) -> u64
 pub fn word_count(len: u64) -> u64
     ensures { result ≡ word_count len }
 {
-    (block_count(len) + 63) / 64
+    block_count(len).div_ceil(64)
+}
+
+// A word of the map, 0 past its end.
+fn word_at(map: &[u64], i: u64) -> u64
+    ensures { result ≡ word_at map.now i }
+{
+    map.get(i as usize).copied().unwrap_or(0)
 }
 
 // Whether a block's bit is set in the map.
 pub fn has_bit(map: &[u64], block: u64) -> bool
     ensures { result ≡ bit map.now block }
 {
-    let word = (block / 64) as usize;
-    if word < map.len() {
-        (map[word] >> (block % 64)) % 2 == 1
-    } else {
-        false
-    }
-}
-
-// The ones of a word.
-fn ones_of(word: u64) -> u64
-    ensures { (result ≡ ones word) × (result ≤ 64) }
-{
-    u64::count_ones(word) as u64
+    (word_at(map, block / 64) >> (block % 64)) % 2 == 1
 }
 
 // The ones of each word, summed.
@@ -48,13 +42,7 @@ fn ones(words: &[u64]) -> u64
     requires { length words.now < 2 ^ 50 }
     ensures { result ≡ ones_in words.now }
 {
-    let mut count: u64 = 0;
-    let mut i = 0;
-    while i < words.len() {
-        count += ones_of(words[i]);
-        i += 1;
-    }
-    count
+    words.iter().map(|word| u64::from(word.count_ones())).sum()
 }
 
 // The held count of a file of a given length.
@@ -62,10 +50,7 @@ pub fn held_count(len: u64, map: &[u64]) -> u64
     ensures { result ≡ held_count len map.now }
 {
     let words = word_count(len) as usize;
-    if map.len() <= words {
-        return ones(map);
-    }
-    ones(&map[..words])
+    ones(&map[..words.min(map.len())])
 }
 
 // Whether a bit past the last block is set in a word in use: only the last of them has such bits.
@@ -73,13 +58,6 @@ pub fn has_spare_bit(len: u64, map: &[u64]) -> bool
     ensures { result ≡ spare_bit len map.now }
 {
     let blocks = block_count(len);
-    let last = (blocks / 64) as usize;
     let used = blocks % 64;
-    if used == 0 {
-        return false;
-    }
-    if map.len() <= last {
-        return false;
-    }
-    map[last] >> used != 0
+    used != 0 && word_at(map, blocks / 64) >> used != 0
 }

@@ -1,10 +1,12 @@
--- `bitmap::ones` meets its contract. The invariant: the ones of all words are those counted and those from word i on (proofs/HeldCount).
-use native.Mathlib.Omega.{arith}
-use Rattle.bitmap.proofs.HeldCount.{ones_from, ones_end}
+-- `bitmap::ones` meets its contract: the sum of the words' ones is `ones_in` (proofs/HeldCount).
+use mathlib.Core.Path.{◌≡◌, sym, ◌∙◌}
+use Rattle.std.proofs.Common.{rules}
+use Rattle.std.specs.List.{sum_by}
+use lib.Count.{ones}
+use Rattle.bitmap.proofs.HeldCount.{ones_sum}
 use Rattle.bitmap.proofs.ones.Goals as goal
 
-pub loop-i-preserved : goal.loop-i-preserved
-loop-i-preserved c = omega (arith, ones_from c.args.words.now c.loop-i.i c.loop-i-test.true)
-
 pub returns : goal.returns
-returns c = omega (arith, ones_end c.args.words.now c.loop-i.i c.loop-i-test.false)
+returns c =
+    let all : c.sum.result ≡ sum_by ones c.args.words.now = search rules in
+    all ∙ sym (ones_sum c.args.words.now)
