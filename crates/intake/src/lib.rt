@@ -64,6 +64,7 @@ enum Judged {
 }
 
 // Whether a file may have the length.
+#[tactic(auto, using(std::proofs::lemmas::Bool::Decides::nat_tests), unfolding(crate::specs::Length::allowed_length))]
 fn allowed(len: u64) -> bool
     ensures { result ≡ allowed_length len }
 {
@@ -72,6 +73,7 @@ fn allowed(len: u64) -> bool
 }
 
 // Refusals 1 to 3.
+#[tactic(auto, using(lists::proofs::Choice::tests), unfolding(crate::specs::Check::check_lengths))]
 fn check_lengths(len: u64, image: &[u8], map: &[u64]) -> Result<(), Refusal>
     ensures { answer_of result ≡ check_lengths len image.now map.now (given tt) }
 {
@@ -243,6 +245,7 @@ fn sized(blocks: &[u64], pieces: &[u8]) -> bool
 }
 
 // Refusals 6 and 17 of a packet.
+#[tactic(auto, using(lists::proofs::Choice::tests), unfolding(crate::specs::Packet::check_sizes))]
 fn check_sizes(blocks: &[u64], pieces: &[u8], results: &[u32]) -> Result<(), Refusal>
     ensures { answer_of result ≡ check_sizes blocks.now pieces.now results.now (given tt) }
 {
@@ -289,6 +292,7 @@ pub fn deliver_packet(
 }
 
 // Whether the file has a block, and it is held.
+#[tactic(auto, using(lists::proofs::Choice::tests), unfolding(crate::specs::Missing::held))]
 pub fn holds(intake: Intake, map: &[u64], block: u64) -> bool
     ensures { result ≡ held intake.len map.now block }
 {
