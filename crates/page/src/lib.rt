@@ -1,17 +1,17 @@
 // Reading one page: its header, its row index and its rows. A page is its own part of the image.
 #![tactic(auto)]
 
-ghost use Rattle.std.specs.Prelude.{◌≡◌, ◌+◌, ◌-◌, ◌*◌, ◌/◌, ◌%◌, ◌^◌, ◌<◌, ◌≤◌, length, set, take, drop};
+ghost use Rattle.std.specs.Prelude.{◌≡◌, ◌+◌, ◌-◌, ◌^◌, ◌<◌, ◌≤◌, length, set, take, drop};
 ghost use Rattle.number.specs.Number.{le16};
 ghost use Rattle.refusal.specs.Answer.{answer_of};
-ghost use Rattle.format.specs.Size.{heap_start, group_size};
+ghost use Rattle.format.specs.Size.{heap_start};
 ghost use Rattle.lists.specs.Write.{written};
 ghost use Rattle.lists.specs.Nth.{nth};
 ghost use Rattle.row.specs.Check.{check_row, check_of};
 ghost use Rattle.page.specs.Header.{next_page, number_agrees, type_agrees, rowless, entries, num_rows};
 ghost use Rattle.page.specs.Index.{rest_size, index_size, flags_at, present, row_start, present_from};
 ghost use Rattle.page.specs.Found.{row_of, no_row};
-ghost use Rattle.page.specs.Read.{index_good, before_index, judged, entry_places, row_places, read_page, row_count};
+ghost use Rattle.page.specs.Read.{before_index, judged, entry_places, row_places, read_page, row_count};
 ghost use Rattle.page.specs.Row.{page_row, row_at_of, Near};
 ghost use Rattle.page.specs.OneRow.{read_row};
 ghost use Rattle.page.specs.Private.{PageIndex, good_index, rows_index, group_ones, tested_index, rows_from, checked_count, judged_at};
