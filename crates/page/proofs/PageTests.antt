@@ -1,6 +1,6 @@
 -- Rule 4.15: the tests of a page, and what they leave.
 --     number_rung to good_rung           which test answers, by the tests of the code; by_tests: a case for each
---     index_told, entries_inside         what they tell of the index that they leave
+--     index_told                         what they tell of the index that they leave
 --     counted_rows, no_rows, rows_refused     what reading the page answers then
 --     ranked_row, no-row, row_refused         and what reading one row does
 use mathlib.Core.Path.{◌≡◌, refl, sym, ap, ◌∙◌}
