@@ -6,6 +6,7 @@
 --     SameWalk, WalkGrows, FileAgree   the same pages give the same walk, more pages a longer one; the bytes it depends on
 --     BlocksHeld                       a page is held where each of its blocks is
 --     WalkLoop, FillLoop, RowLoop      the loops of the code, by their invariants
+--     ReplyThen                        what follows an answer about a row
 --     ChainPlaces                      in an allowed file, the places written are those of the rows found
 pub mod Linkable
 pub mod WalkStep
@@ -21,5 +22,6 @@ pub mod BlocksHeld
 pub mod PageRead
 pub mod FillLoop
 pub mod RowLoop
+pub mod ReplyThen
 pub mod ChainPlaces
 pub mod FileAgree

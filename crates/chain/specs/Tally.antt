@@ -7,6 +7,16 @@ use Rattle.chain.specs.declared.Walked.{Walked}
 use Rattle.chain.specs.declared.Walked.TheVariants.{Full, Waiting}
 use Rattle.chain.specs.Walk.{Progress, Walk, full, waiting}
 
+-- the number of rows found
+abbrev pub rows_counted : Progress ℕ → ℕ
+rows_counted (full rows pages) = rows
+rows_counted (waiting page rows pages) = rows
+
+-- the number of pages walked
+abbrev pub pages_counted : Progress ℕ → ℕ
+pages_counted (full rows pages) = pages
+pages_counted (waiting page rows pages) = pages
+
 -- the rows found by their number
 abbrev pub tally : Walk Rows → Walk ℕ
 tally (given (full rows pages)) = given (full (length rows) pages)

@@ -16,7 +16,8 @@ use Rattle.chain.specs.Found.{Found, found, waiting, then_found}
 use Rattle.listed.specs.Listed.{listed_row}
 use Rattle.table_walk.specs.Walk.{page_size}
 use Rattle.export.specs.FromList.{table_listed}
-use Rattle.export.specs.Private.{SizedRow, sized_row, row_at}
+use Rattle.export.specs.declared.SizedRow.{SizedRow}
+use Rattle.export.specs.Private.{sized_row, row_at}
 
 module _ (len : ℕ) (m : Memory) (list : Places) (i : ℕ) (table : Table) where
   pub block_missing : bit m.map 0 ≡ false → given (waiting 0 0 0) ≡ then_found (table_listed len m list i table) (row_at (page_size m))

@@ -12,7 +12,7 @@ use Rattle.export.proofs.layout_of.Goals as goal
 pub returns-then-not-has_bit : goal.returns-then-not-has_bit
 returns-then-not-has_bit c =
     let a = c.args in
-    not_held a.len (memory a.image.now a.map.now) (layout_in a.len) (sym c.has_bit.ensures ∙ c.if-not-has_bit.true)
+    rw c.waiting.ensures (not_held a.len (memory a.image.now a.map.now) (layout_in a.len) (sym c.has_bit.ensures ∙ c.if-not-has_bit.true))
 
 pub returns-then-not-header_holds : goal.returns-then-not-header_holds
 returns-then-not-header_holds c =
