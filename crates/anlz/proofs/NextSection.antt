@@ -1,7 +1,7 @@
 -- Rules 14.4 and 14.5: what stands at a place: the end of the file, a section whole inside it (section_whole), or a broken one.
 use mathlib.Core.Path.{◌≡◌}
 use mathlib.Core.Bool.{true, false}
-use mathlib.Core.Option.{none, some}
+use Rattle.std.specs.Prelude.{None, Some}
 use Prim.Native.Nat.{ℕ, ◌+◌, ◌≤◌}
 use native.Mathlib.Omega.{arith}
 use lib.ListN.{length}
@@ -34,7 +34,7 @@ module _ (file : Bytes) (place : ℕ) where
         ends = leb-true _ _ third.1;
       }
 
-  pub next_end : place ≡ length file → given none ≡ next_section file place
+  pub next_end : place ≡ length file → given None ≡ next_section file place
   unfolding next_section
   next_end e = rw (eq-eqb place (length file) e)
 
@@ -42,7 +42,7 @@ module _ (file : Bytes) (place : ℕ) where
   unfolding next_section
   next_broken n e = rw (ne_eqb place (length file) n, e)
 
-  pub next_found : section_holds file place ≡ true → given (some (section_at file place)) ≡ next_section file place
+  pub next_found : section_holds file place ≡ true → given (Some (section_at file place)) ≡ next_section file place
   unfolding next_section
   next_found e =
       let w = section_whole e in
@@ -54,7 +54,7 @@ pub record Inside (file : Bytes) (place : ℕ) (section : Section) : Type 0 wher
   pub more : place + 12 ≤ section.end
   pub ends : section.end ≤ length file
 
-pub found_inside : (file : Bytes) (place : ℕ) {section : Section} → given (some section) ≡ next_section file place → Inside file place section
+pub found_inside : (file : Bytes) (place : ℕ) {section : Section} → given (Some section) ≡ next_section file place → Inside file place section
 unfolding next_section
 found_inside file place {section} e =
     on (eqb place (length file))

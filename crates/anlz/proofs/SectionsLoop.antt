@@ -2,7 +2,7 @@
 -- made of them is a function (`rest`), which may change from section to section.
 use mathlib.Core.Path.{◌≡◌, refl, sym, ◌∙◌}
 use mathlib.Core.List.{List, [], ◌∷◌}
-use mathlib.Core.Option.{Option, none, some}
+use Rattle.std.specs.Prelude.{Option, None, Some}
 use Prim.Native.Nat.{ℕ, ◌-◌, ◌≤◌}
 use native.Mathlib.Omega.{arith}
 use lib.ListN.{length}
@@ -38,13 +38,13 @@ module _ {A : Type 0} {file : Bytes} {whole : Answer A} {at : ℕ} {rest : List 
       → whole ≡ and_then (follow next (λ (section : Section). before section (sections_from (length file - section.end) file section.end))) rest
   step e = l.made ∙ rw (e, sections_step file at l.inside)
 
-  pub left_end : given none ≡ next_section file at → rest [] ≡ whole
+  pub left_end : given None ≡ next_section file at → rest [] ≡ whole
   left_end e = sym (step e)
 
   pub left_broken : {f : Fault} → refused f ≡ next_section file at → refused f ≡ whole
   left_broken e = sym (step e)
 
-  pub left_found : {section : Section} (then : List Section → Answer A) → given (some section) ≡ next_section file at
+  pub left_found : {section : Section} (then : List Section → Answer A) → given (Some section) ≡ next_section file at
       → ((all : List Section) → rest (section ∷ all) ≡ then all) → SectionsLeft file whole section.end then
   left_found {section} then e more =
       record {

@@ -1,29 +1,24 @@
 -- Rules 14.5 and 14.6: the sections of an ANLZ file in file order, or the refusal.
-use Rattle.std.specs.Prelude.{not, cond, List, [], ◌∷◌, ℕ, zero, suc, ◌-◌, length, eqb}
-use Rattle.std.proofs.Math.Option.{Option, none, some}
+use Rattle.std.specs.Prelude.{not, cond, List, [], ◌∷◌, ℕ, zero, suc, ◌-◌, length, eqb, Option, None, Some}
 use Rattle.lists.specs.Alias.{Bytes}
 use Rattle.refusal.specs.Fault.{fault}
 use Rattle.refusal.specs.Answer.{Answer, given, refused, refuse_if, and_then}
 use Rattle.anlz.specs.declared.Section.{Section}
-use Rattle.anlz.specs.declared.Start.{Start}
-use Rattle.anlz.specs.declared.Start.TheVariants as start
-use Rattle.anlz.specs.declared.Step.{Step}
-use Rattle.anlz.specs.declared.Step.TheVariants as step
-use Rattle.anlz.specs.Fault.{anlz_fault}
+use Rattle.anlz.specs.declared.Cursor.{Cursor}
 use Rattle.anlz.specs.Header.{header_holds, len_header}
 use Rattle.anlz.specs.Section.{section_holds, section_at}
 
 -- Rule 14.5: none where the file ends at a place, else the section that starts there
 unfoldable pub next_section : (file : Bytes) (place : ℕ) → Answer (Option Section)
 next_section file place =
-    cond (eqb place (length file)) (given none)
+    cond (eqb place (length file)) (given None)
     (refuse_if (not (section_holds file place)) (fault 21 0)
-    (given (some (section_at file place))))
+    (given (Some (section_at file place))))
 
 -- the end gives no section, a section goes on with the rest, a refusal stays
 abbrev pub follow : (next : Answer (Option Section)) (rest : Section → Answer (List Section)) → Answer (List Section)
-follow (given none) rest = given []
-follow (given (some section)) rest = rest section
+follow (given None) rest = given []
+follow (given (Some section)) rest = rest section
 follow (refused f) rest = refused f
 
 -- a section in front of those behind it
@@ -44,12 +39,6 @@ first_place file = refuse_if (not (header_holds file)) (fault 20 0) (given (len_
 unfoldable pub sections : (file : Bytes) → Answer (List Section)
 sections file = and_then (first_place file) (λ (place : ℕ). sections_from (length file - place) file place)
 
--- the answer for each case of the code's enums
-abbrev pub start_of : Start → Answer ℕ
-start_of (start.At cursor) = given cursor.place
-start_of (start.Refused refusal) = refused (anlz_fault refusal)
-
-abbrev pub step_of : Step → Answer (Option Section)
-step_of step.End = given none
-step_of (step.Found section) = given (some section)
-step_of (step.Refused refusal) = refused (anlz_fault refusal)
+-- where a cursor stands
+abbrev pub place_of : Cursor → ℕ
+place_of cursor = cursor.place

@@ -2,11 +2,11 @@
 #![tactic(auto)]
 
 ghost use Rattle.std.specs.Prelude.{◌≡◌, ◌≤◌, length};
-ghost use Rattle.anlz.specs.Fault.{anlz_number};
+ghost use Rattle.anlz.specs.Fault.{AnlzNumberOf, anlz_answer_as, anlz_answer_of};
 ghost use Rattle.anlz.specs.Header.{header_holds};
 ghost use Rattle.anlz.specs.Section.{section_holds, tag_of};
-ghost use Rattle.anlz.specs.Sections.{next_section, first_place, start_of, step_of};
-ghost use Rattle.anlz.specs.First.{first_section, first_of};
+ghost use Rattle.anlz.specs.Sections.{next_section, first_place, place_of};
+ghost use Rattle.anlz.specs.First.{first_section};
 ghost use Rattle.anlz.specs.Private.{or_else, if_code, first_from};
 
 // The code that an ANLZ file starts with.
@@ -16,7 +16,7 @@ const PMAI: u32 = 0x504d_4149;
 const ENVELOPE: usize = 12;
 
 // The refusals about an ANLZ file. None carries a value.
-#[derive(Drop)]
+#[derive(Clone, Copy, Debug, PartialEq, Eq)]
 pub enum AnlzRefusal {
     // What is asked for by its number is not there.
     Absent,
@@ -29,11 +29,12 @@ pub enum AnlzRefusal {
     Waveform,
 }
 
-impl AnlzRefusal {
-    pub fn number(self) -> u32
-        ensures { result ≡ anlz_number self }
-    {
-        match self {
+// The number of a refusal.
+impl From<AnlzRefusal> for u32 {
+    ghost from_gives = { AnlzNumberOf };
+
+    fn from(refusal: AnlzRefusal) -> Self {
+        match refusal {
             AnlzRefusal::Absent => 18,
             AnlzRefusal::FileHeader => 20,
             AnlzRefusal::BadSection => 21,
@@ -47,7 +48,7 @@ impl AnlzRefusal {
 }
 
 // A section: its code, and where it starts and ends in the file.
-#[derive(Clone, Copy)]
+#[derive(Clone, Copy, Debug, PartialEq, Eq)]
 pub struct Section {
     pub code: u32,
     pub place: usize,
@@ -55,32 +56,9 @@ pub struct Section {
 }
 
 // Where in the file the next section is looked for.
-#[derive(Drop)]
+#[derive(Clone, Copy, Debug, PartialEq, Eq)]
 pub struct Cursor {
     pub place: usize,
-}
-
-// The first section's place, or why the file has none.
-#[derive(Drop)]
-pub enum Start {
-    At(Cursor),
-    Refused(AnlzRefusal),
-}
-
-// The section at a cursor, if one is left.
-#[derive(Drop)]
-pub enum Step {
-    End,
-    Found(Section),
-    Refused(AnlzRefusal),
-}
-
-// The first section with a code, if there is one.
-#[derive(Drop)]
-pub enum First {
-    Absent,
-    Found(Section),
-    Refused(AnlzRefusal),
 }
 
 fn header_holds(file: &[u8]) -> bool
@@ -128,31 +106,31 @@ fn section_holds(file: &[u8], place: usize) -> bool
 
 impl Cursor {
     // Before the first section.
-    pub fn start(file: &[u8]) -> Start
-        ensures { start_of result ≡ first_place file.now }
+    pub fn start(file: &[u8]) -> Result<Cursor, AnlzRefusal>
+        ensures { anlz_answer_as place_of result ≡ first_place file.now }
     {
         if header_holds(file) {
             let place = number::u32_be_at(file, 0x04) as usize;
-            Start::At(Cursor { place })
+            Ok(Cursor { place })
         } else {
-            Start::Refused(AnlzRefusal::FileHeader)
+            Err(AnlzRefusal::FileHeader)
         }
     }
 
-    // The section that starts here.
-    pub fn step(self, file: &[u8]) -> Step
-        ensures { step_of result ≡ next_section file.now self.place }
+    // The section that starts here, if one is left.
+    pub fn step(self, file: &[u8]) -> Result<Option<Section>, AnlzRefusal>
+        ensures { anlz_answer_of result ≡ next_section file.now self.place }
     {
         let place = self.place;
         if place == file.len() {
-            return Step::End;
+            return Ok(None);
         }
         if section_holds(file, place) {
             let code = number::u32_be_at(file, place);
             let end = place + (number::u32_be_at(file, place + 0x08) as usize);
-            Step::Found(Section { code, place, end })
+            Ok(Some(Section { code, place, end }))
         } else {
-            Step::Refused(AnlzRefusal::BadSection)
+            Err(AnlzRefusal::BadSection)
         }
     }
 }
@@ -167,54 +145,47 @@ impl Section {
 }
 
 // The section found before, else this one if it has the code.
-fn keep(first: First, section: Section, code: u32) -> First
-    ensures { first_of result ≡ or_else (first_of first) (if_code code section) }
+fn keep(first: Option<Section>, section: Section, code: u32) -> Option<Section>
+    ensures { result ≡ or_else first (if_code code section) }
 {
     match first {
-        First::Absent => {
+        None => {
             if section.code == code {
-                First::Found(section)
+                Some(section)
             } else {
-                First::Absent
+                None
             }
         }
-        First::Found(found) => First::Found(found),
-        First::Refused(refusal) => First::Refused(refusal),
+        Some(found) => Some(found),
     }
 }
 
 // The first section with a code, from a place in the file on.
-fn first_from(place: usize, file: &[u8], code: u32) -> First
+fn first_from(place: usize, file: &[u8], code: u32) -> Result<Option<Section>, AnlzRefusal>
     requires { place ≤ length file.now }
-    ensures { first_of result ≡ first_from file.now place code }
+    ensures { anlz_answer_of result ≡ first_from file.now place code }
 {
     let mut at = place;
-    let mut first = First::Absent;
+    let mut first = None;
     while at < file.len() {
         let cursor = Cursor { place: at };
-        match cursor.step(file) {
-            Step::End => {
-                return first;
+        match cursor.step(file)? {
+            None => {
+                return Ok(first);
             }
-            Step::Found(section) => {
+            Some(section) => {
                 first = keep(first, section, code);
                 at = section.end;
             }
-            Step::Refused(refusal) => {
-                return First::Refused(refusal);
-            }
         }
     }
-    first
+    Ok(first)
 }
 
-// The first section of a file that has a code. Every section is judged, also behind that one.
-pub fn first_section(file: &[u8], code: u32) -> First
-    ensures { first_of result ≡ first_section file.now code }
+// The first section of a file that has a code, if there is one. Every section is judged, also behind that one.
+pub fn first_section(file: &[u8], code: u32) -> Result<Option<Section>, AnlzRefusal>
+    ensures { anlz_answer_of result ≡ first_section file.now code }
 {
-    let start = Cursor::start(file);
-    match start {
-        Start::At(cursor) => first_from(cursor.place, file, code),
-        Start::Refused(refusal) => First::Refused(refusal),
-    }
+    let cursor = Cursor::start(file)?;
+    first_from(cursor.place, file, code)
 }

@@ -3,7 +3,7 @@
 use mathlib.Core.Path.{◌≡◌, refl}
 use mathlib.Core.Bool.{Bool, true, false≢true, ◌||◌}
 use mathlib.Core.List.{List, [], ◌∷◌}
-use mathlib.Core.Option.{Option, none, some}
+use Rattle.std.specs.Prelude.{Option, None, Some}
 use Prim.Native.Nat.{ℕ}
 use lib.Dec.{eqb}
 use Rattle.lists.specs.Alias.{Bytes}
@@ -28,7 +28,7 @@ use Rattle.wave_depend.specs.Bytes as wave
 use Rattle.anlz_depend.specs.Bytes.{any_byte, in_code, code_byte}
 
 -- the first section with a code is one of those with it
-first_own : (test : Bytes → ℕ → Bool) (file : Bytes) (i code : ℕ) (all : List Section) (section : Section) → first_with code all ≡ some section
+first_own : (test : Bytes → ℕ → Bool) (file : Bytes) (i code : ℕ) (all : List Section) (section : Section) → first_with code all ≡ Some section
     → in_tag test file section i ≡ true → in_tags any_byte file (all_with code all) i ≡ true
 unfolding first_with all_with in_tags
 first_own test file i code [] section f e = never (cc f)
@@ -51,8 +51,8 @@ grid_in file i (refused f) test e = absurd (false≢true e)
 grid_in file i (given all) test e = by (first_with pqtz all) refl e
   where
     by : (found : Option Section) → first_with pqtz all ≡ found → in_grid test file (needed found) i ≡ true → in_tags any_byte file (all_with pqtz all) i ≡ true
-    by none f q = absurd (false≢true q)
-    by (some section) f q = first_own test file i pqtz all section f q
+    by None f q = absurd (false≢true q)
+    by (Some section) f q = first_own test file i pqtz all section f q
 
 pub grid_own : (test : Bytes → ℕ → Bool) (file : Bytes) (i : ℕ) → grid.relevant test file i ≡ true → code_byte pqtz file i ≡ true
 unfolding grid.relevant grid_section first_section
@@ -66,17 +66,17 @@ pub cues_own : (file : Bytes) (i : ℕ) → every_relevant file i ≡ true → c
 unfolding every_relevant
 cues_own file i = envelope_or_own file pcob i _ (cues_in file i (sections file))
 
-wave_in : (file : Bytes) (i number : ℕ) {w : Wave} (all : Answer (List Section)) → sort_of number ≡ some w
+wave_in : (file : Bytes) (i number : ℕ) {w : Wave} (all : Answer (List Section)) → sort_of number ≡ Some w
     → in_asked file (and_then all (asked_section number)) i ≡ true → in_code (wave_code w) file all i ≡ true
 wave_in file i number (refused f) k e = absurd (false≢true e)
 wave_in file i number {w} (given all) k e = by (first_with (wave_code w) all) refl (rw k at e)
   where
     by : (found : Option Section) → first_with (wave_code w) all ≡ found → in_asked file (or_absent found) i ≡ true
         → in_tags any_byte file (all_with (wave_code w) all) i ≡ true
-    by none f q = absurd (false≢true q)
-    by (some section) f q = first_own wave.width_and_number file i (wave_code w) all section f q
+    by None f q = absurd (false≢true q)
+    by (Some section) f q = first_own wave.width_and_number file i (wave_code w) all section f q
 
-pub wave_own : (number : ℕ) {w : Wave} (file : Bytes) (i : ℕ) → sort_of number ≡ some w → wave.relevant number file i ≡ true
+pub wave_own : (number : ℕ) {w : Wave} (file : Bytes) (i : ℕ) → sort_of number ≡ Some w → wave.relevant number file i ≡ true
     → code_byte (wave_code w) file i ≡ true
 unfolding wave.relevant
 wave_own number {w} file i k = envelope_or_own file (wave_code w) i _ (wave_in file i number (sections file) k)

@@ -1,6 +1,5 @@
 -- Rules 14.8, 14.10 and 14.12: the beats of a file's grid in order, or the refusal.
-use Rattle.std.specs.Prelude.{not, List, map, ℕ}
-use Rattle.std.proofs.Math.Option.{Option, none, some}
+use Rattle.std.specs.Prelude.{not, List, map, ℕ, Option, None, Some}
 use Rattle.lists.specs.Alias.{Bytes}
 use Rattle.number.specs.Number.{be32}
 use Rattle.refusal.specs.Fault.{fault}
@@ -33,8 +32,8 @@ grid_in tag =
 
 -- Rule 14.8: 22 where there is none
 abbrev pub needed : Option Section → Answer Section
-needed none = refused (fault 22 0)
-needed (some section) = given section
+needed None = refused (fault 22 0)
+needed (Some section) = given section
 
 -- Rule 14.8: the first section PQTZ
 unfoldable pub grid_section : (file : Bytes) → Answer Section

@@ -3,46 +3,26 @@
 
 ghost use Rattle.std.specs.Prelude.{◌≡◌};
 ghost use Rattle.refusal.specs.Answer.{and_then};
+ghost use Rattle.anlz.specs.Fault.{anlz_answer_of};
 ghost use Rattle.anlz.specs.Element.{element_at};
 ghost use Rattle.entries.specs.Entries.{entries};
 ghost use Rattle.entries.specs.Every.{every_entry};
 ghost use Rattle.beat_grid.specs.Beat.{beat_size, beat_of, bar_holds, beat_holds};
 ghost use Rattle.beat_grid.specs.Grid.{grid_in, grid_section};
-ghost use Rattle.beat_grid.specs.Questions.{counted, ask_beats, ask_beat, beats_reply_of, beat_reply_of};
-ghost use Rattle.beat_grid.specs.Private.{grid_reply_of};
+ghost use Rattle.beat_grid.specs.Questions.{counted, ask_beats, ask_beat};
 
-use anlz::{AnlzRefusal, First, Section};
+use anlz::{AnlzRefusal, Section};
 use entries::Entries;
 
 // The code of the section that holds a beat grid.
 const PQTZ: u32 = 0x5051_545a;
 
 // A beat: its position in the bar, beats per minute times 100, and milliseconds.
-#[derive(Drop)]
+#[derive(Clone, Copy, Debug, PartialEq, Eq)]
 pub struct GridBeat {
     pub bar_position: u16,
     pub tempo: u16,
     pub time: u32,
-}
-
-// The number of beats.
-#[derive(Drop)]
-pub enum BeatsReply {
-    Count(u32),
-    Refused(AnlzRefusal),
-}
-
-// One beat.
-#[derive(Drop)]
-pub enum BeatReply {
-    Found(GridBeat),
-    Refused(AnlzRefusal),
-}
-
-#[derive(Drop)]
-enum GridReply {
-    Found(Section),
-    Refused(AnlzRefusal),
 }
 
 impl GridBeat {
@@ -90,8 +70,8 @@ fn bars_hold(tag: &[u8], count: u32) -> bool
 }
 
 // The number of beats in this section.
-fn beats_in(tag: &[u8]) -> BeatsReply
-    ensures { beats_reply_of result ≡ and_then (grid_in tag.now) counted }
+fn beats_in(tag: &[u8]) -> Result<u32, AnlzRefusal>
+    ensures { anlz_answer_of result ≡ and_then (grid_in tag.now) counted }
 {
     let count = number::u32_be_at(tag, 0x14);
     let beats = Entries {
@@ -99,64 +79,49 @@ fn beats_in(tag: &[u8]) -> BeatsReply
         count,
     };
     if !beats.fill(tag) {
-        return BeatsReply::Refused(AnlzRefusal::GridLength);
+        return Err(AnlzRefusal::GridLength);
     }
     if !bars_hold(tag, count) {
-        return BeatsReply::Refused(AnlzRefusal::BarPosition);
+        return Err(AnlzRefusal::BarPosition);
     }
-    BeatsReply::Count(count)
+    Ok(count)
 }
 
 // Beat k of this section.
-fn beat_in(tag: &[u8], k: u64) -> BeatReply
-    ensures { beat_reply_of result ≡ and_then (grid_in tag.now) (element_at k) }
+fn beat_in(tag: &[u8], k: u64) -> Result<GridBeat, AnlzRefusal>
+    ensures { anlz_answer_of result ≡ and_then (grid_in tag.now) (element_at k) }
 {
-    let count = beats_in(tag);
-    match count {
-        BeatsReply::Count(n) => {
-            if (n as u64) <= k {
-                return BeatReply::Refused(AnlzRefusal::Absent);
-            }
-            let beats = Entries {
-                width: GridBeat::SIZE,
-                count: n,
-            };
-            BeatReply::Found(GridBeat::read(beats.entry(tag, k as u32)))
-        }
-        BeatsReply::Refused(refusal) => BeatReply::Refused(refusal),
+    let count = beats_in(tag)?;
+    if (count as u64) <= k {
+        return Err(AnlzRefusal::Absent);
     }
+    let beats = Entries {
+        width: GridBeat::SIZE,
+        count,
+    };
+    Ok(GridBeat::read(beats.entry(tag, k as u32)))
 }
 
 // The section that holds the grid.
-fn grid_section(file: &[u8]) -> GridReply
-    ensures { grid_reply_of result ≡ grid_section file.now }
+fn grid_section(file: &[u8]) -> Result<Section, AnlzRefusal>
+    ensures { anlz_answer_of result ≡ grid_section file.now }
 {
-    let first = anlz::first_section(file, PQTZ);
-    match first {
-        First::Absent => GridReply::Refused(AnlzRefusal::NoGrid),
-        First::Found(section) => GridReply::Found(section),
-        First::Refused(refusal) => GridReply::Refused(refusal),
-    }
+    let first = anlz::first_section(file, PQTZ)?;
+    first.ok_or(AnlzRefusal::NoGrid)
 }
 
 // The number of beats in the grid of an ANLZ file.
-pub fn beats(file: &[u8]) -> BeatsReply
-    ensures { beats_reply_of result ≡ ask_beats file.now }
+pub fn beats(file: &[u8]) -> Result<u32, AnlzRefusal>
+    ensures { anlz_answer_of result ≡ ask_beats file.now }
 {
-    let grid = grid_section(file);
-    match grid {
-        GridReply::Found(section) => beats_in(section.bytes(file)),
-        GridReply::Refused(refusal) => BeatsReply::Refused(refusal),
-    }
+    let section = grid_section(file)?;
+    beats_in(section.bytes(file))
 }
 
 // Beat k in the grid of an ANLZ file, from 0.
-pub fn beat(file: &[u8], k: u64) -> BeatReply
-    ensures { beat_reply_of result ≡ ask_beat file.now k }
+pub fn beat(file: &[u8], k: u64) -> Result<GridBeat, AnlzRefusal>
+    ensures { anlz_answer_of result ≡ ask_beat file.now k }
 {
-    let grid = grid_section(file);
-    match grid {
-        GridReply::Found(section) => beat_in(section.bytes(file), k),
-        GridReply::Refused(refusal) => BeatReply::Refused(refusal),
-    }
+    let section = grid_section(file)?;
+    beat_in(section.bytes(file), k)
 }

@@ -24,13 +24,14 @@ pub fn word_count(len: u64) -> u64
 }
 
 // A word of the map, 0 past its end.
-fn word_at(map: &[u64], i: u64) -> u64
+pub fn word_at(map: &[u64], i: u64) -> u64
     ensures { result ≡ word_at map.now i }
 {
     map.get(i as usize).copied().unwrap_or(0)
 }
 
 // Whether a block's bit is set in the map.
+#[tactic(auto, unfolding(crate::specs::Bit::bit))]
 pub fn has_bit(map: &[u64], block: u64) -> bool
     ensures { result ≡ bit map.now block }
 {
@@ -46,6 +47,7 @@ fn ones(words: &[u64]) -> u64
 }
 
 // The held count of a file of a given length.
+#[tactic(auto, using(std::proofs::lemmas::List::take_min), unfolding(crate::specs::Count::held_count))]
 pub fn held_count(len: u64, map: &[u64]) -> u64
     ensures { result ≡ held_count len map.now }
 {

@@ -2,42 +2,39 @@
 #![tactic(auto)]
 
 ghost use Rattle.std.specs.Prelude.{◌≡◌, [], ◌∷◌};
-ghost use Rattle.anlz.specs.Fault.{anlz_number};
-ghost use Rattle.beat_grid.specs.Questions.{beats_reply_of, beat_reply_of};
-ghost use Rattle.cue_list.specs.Questions.{cue_reply_of};
-ghost use Rattle.waveform.specs.Questions.{wave_reply_of};
+ghost use Rattle.anlz.specs.Fault.{anlz_number, anlz_answer_of};
 ghost use Rattle.c_reply.specs.Reply.{reply, reply_to, Replied};
 ghost use Rattle.c_anlz.specs.Replies.{beats_reply, beat_reply, list_number, cue_reply, wave_reply};
 
 use anlz::AnlzRefusal;
-use beat_grid::{BeatReply, BeatsReply};
+use beat_grid::GridBeat;
 use c_reply::Code;
-use cue_list::{Cue, CueListType, CuePosition, CueReply};
-use waveform::WaveReply;
+use cue_list::{Cue, CueListType, CuePosition};
+use waveform::WaveEntry;
 
 // The reply to a refusal: its number, and 0 for the value and the entry.
 fn refuse(refusal: AnlzRefusal, res: &mut [u64]) -> u32
     ensures { Replied (reply (anlz_number refusal) (0 ∷ 0 ∷ [])) result res.old res.new }
 {
-    c_reply::put(refusal.number(), &[0, 0], res)
+    c_reply::put(u32::from(refusal), &[0, 0], res)
 }
 
 // The reply with the number of beats.
-pub fn reply_beats(answer: BeatsReply, res: &mut [u64]) -> u32
-    ensures { Replied (reply_to beats_reply (beats_reply_of answer)) result res.old res.new }
+pub fn reply_beats(answer: Result<u32, AnlzRefusal>, res: &mut [u64]) -> u32
+    ensures { Replied (reply_to beats_reply (anlz_answer_of answer)) result res.old res.new }
 {
     match answer {
-        BeatsReply::Count(n) => c_reply::put(Code::DONE, &[n as u64], res),
-        BeatsReply::Refused(refusal) => refuse(refusal, res),
+        Ok(n) => c_reply::put(Code::DONE, &[n as u64], res),
+        Err(no_beats) => refuse(no_beats, res),
     }
 }
 
 // The reply with a beat.
-pub fn reply_beat(answer: BeatReply, res: &mut [u64]) -> u32
-    ensures { Replied (reply_to beat_reply (beat_reply_of answer)) result res.old res.new }
+pub fn reply_beat(answer: Result<GridBeat, AnlzRefusal>, res: &mut [u64]) -> u32
+    ensures { Replied (reply_to beat_reply (anlz_answer_of answer)) result res.old res.new }
 {
     match answer {
-        BeatReply::Found(beat) => c_reply::put(
+        Ok(beat) => c_reply::put(
             Code::DONE,
             &[
                 beat.bar_position as u64,
@@ -46,7 +43,7 @@ pub fn reply_beat(answer: BeatReply, res: &mut [u64]) -> u32
             ],
             res,
         ),
-        BeatReply::Refused(refusal) => refuse(refusal, res),
+        Err(no_beat) => refuse(no_beat, res),
     }
 }
 
@@ -63,11 +60,9 @@ fn list_number(list: CueListType) -> u64
 fn put_cue(cue: Cue, res: &mut [u64]) -> u32
     ensures { Replied (cue_reply cue) result res.old res.new }
 {
-    let list_type = cue.list;
-    let list = list_number(list_type);
+    let list = list_number(cue.list);
     let hot_cue = cue.hot_cue as u64;
-    let position = cue.position;
-    match position {
+    match cue.position {
         CuePosition::Point { time } => c_reply::put(
             Code::DONE,
             &[list, hot_cue, 1, time as u64],
@@ -82,25 +77,21 @@ fn put_cue(cue: Cue, res: &mut [u64]) -> u32
 }
 
 // The reply with a cue.
-pub fn reply_cue(answer: CueReply, res: &mut [u64]) -> u32
-    ensures { Replied (reply_to cue_reply (cue_reply_of answer)) result res.old res.new }
+pub fn reply_cue(answer: Result<Cue, AnlzRefusal>, res: &mut [u64]) -> u32
+    ensures { Replied (reply_to cue_reply (anlz_answer_of answer)) result res.old res.new }
 {
     match answer {
-        CueReply::Found(cue) => put_cue(cue, res),
-        CueReply::Refused(refusal) => refuse(refusal, res),
+        Ok(cue) => put_cue(cue, res),
+        Err(no_cue) => refuse(no_cue, res),
     }
 }
 
 // The reply with an entry of a waveform.
-pub fn reply_wave(answer: WaveReply, res: &mut [u64]) -> u32
-    ensures { Replied (reply_to wave_reply (wave_reply_of answer)) result res.old res.new }
+pub fn reply_wave(answer: Result<WaveEntry, AnlzRefusal>, res: &mut [u64]) -> u32
+    ensures { Replied (reply_to wave_reply (anlz_answer_of answer)) result res.old res.new }
 {
     match answer {
-        WaveReply::Found(entry) => c_reply::put(
-            Code::DONE,
-            &[entry.place as u64, entry.width as u64],
-            res,
-        ),
-        WaveReply::Refused(refusal) => refuse(refusal, res),
+        Ok(entry) => c_reply::put(Code::DONE, &[entry.place as u64, entry.width as u64], res),
+        Err(no_entry) => refuse(no_entry, res),
     }
 }

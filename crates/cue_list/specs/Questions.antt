@@ -2,16 +2,13 @@
 use Rattle.std.specs.Prelude.{not, List, map, ℕ}
 use Rattle.lists.specs.Alias.{Bytes}
 use Rattle.refusal.specs.Fault.{fault}
-use Rattle.refusal.specs.Answer.{Answer, given, refused, refuse_if, and_then}
+use Rattle.refusal.specs.Answer.{Answer, given, refuse_if, and_then}
 use Rattle.anlz.specs.declared.Section.{Section}
-use Rattle.anlz.specs.Fault.{anlz_fault}
 use Rattle.anlz.specs.Section.{tag_of}
 use Rattle.anlz.specs.Sections.{sections}
 use Rattle.anlz.specs.All.{all_with}
 use Rattle.anlz.specs.Element.{element_at}
 use Rattle.cue_list.specs.declared.Cue.{Cue}
-use Rattle.cue_list.specs.declared.CueReply.{CueReply}
-use Rattle.cue_list.specs.declared.CueReply.TheVariants.{Found, Refused}
 use Rattle.cue_list.specs.CueList.{pcob, lists_hold, all_cues}
 
 -- Rule 14.20: the bytes of each cue list among these sections, in file order
@@ -29,8 +26,3 @@ cues file = and_then (sections file) (λ (all : List Section). cues_of (cue_list
 -- Rule 14.24
 unfoldable pub ask_cue : (file : Bytes) (k : ℕ) → Answer Cue
 ask_cue file k = and_then (cues file) (element_at k)
-
--- the answer for each case of the code's enum
-abbrev pub cue_reply_of : CueReply → Answer Cue
-cue_reply_of (Found cue) = given cue
-cue_reply_of (Refused refusal) = refused (anlz_fault refusal)

@@ -2,14 +2,15 @@
 #![tactic(auto)]
 
 ghost use Rattle.std.specs.Prelude.{◌≡◌, ◌≤◌, length};
+ghost use Rattle.anlz.specs.Fault.{anlz_answer_of};
 ghost use Rattle.entries.specs.Entries.{entries};
 ghost use Rattle.entries.specs.Every.{every_entry};
 ghost use Rattle.cue_list.specs.Cue.{cue_size, cue_holds, position_of, cue_of};
 ghost use Rattle.cue_list.specs.CueList.{len_cues, list_type_of, list_holds};
-ghost use Rattle.cue_list.specs.Questions.{ask_cue, cue_reply_of};
+ghost use Rattle.cue_list.specs.Questions.{ask_cue};
 ghost use Rattle.cue_list.specs.Private.{passed, searched, searched_section, ended, cue_from};
 
-use anlz::{AnlzRefusal, Cursor, Section, Start, Step};
+use anlz::{AnlzRefusal, Cursor, Section};
 use entries::Entries;
 
 // The code of a section that holds a cue list.
@@ -19,36 +20,29 @@ const PCOB: u32 = 0x5043_4f42;
 const PCPT: u32 = 0x5043_5054;
 
 // What the cues of a list are.
-#[derive(Drop)]
+#[derive(Clone, Copy, Debug, PartialEq, Eq)]
 pub enum CueListType {
     Memory,
     Hot,
 }
 
 // Where a cue stands in the track, in milliseconds.
-#[derive(Drop)]
+#[derive(Clone, Copy, Debug, PartialEq, Eq)]
 pub enum CuePosition {
     Point { time: u32 },
     Loop { time: u32, loop_time: u32 },
 }
 
 // A cue: the type of its list, its hot cue number, and where it stands.
-#[derive(Drop)]
+#[derive(Clone, Copy, Debug, PartialEq, Eq)]
 pub struct Cue {
     pub list: CueListType,
     pub hot_cue: u32,
     pub position: CuePosition,
 }
 
-// One cue.
-#[derive(Drop)]
-pub enum CueReply {
-    Found(Cue),
-    Refused(AnlzRefusal),
-}
-
 // What is known of the cue asked for after some lists: how many cues are still to be passed over, the cue, or that a list is bad.
-#[derive(Drop)]
+#[derive(Clone, Copy, Debug, PartialEq, Eq)]
 enum Search {
     Left(u64),
     Found(Cue),
@@ -188,13 +182,13 @@ fn search_list(search: Search, tag: &[u8]) -> Search
 }
 
 // The answer where no list is left.
-fn end(search: Search) -> CueReply
-    ensures { cue_reply_of result ≡ ended search }
+fn end(search: Search) -> Result<Cue, AnlzRefusal>
+    ensures { anlz_answer_of result ≡ ended search }
 {
     match search {
-        Search::Left(_) => CueReply::Refused(AnlzRefusal::Absent),
-        Search::Found(cue) => CueReply::Found(cue),
-        Search::BadList => CueReply::Refused(AnlzRefusal::CueList),
+        Search::Left(_) => Err(AnlzRefusal::Absent),
+        Search::Found(cue) => Ok(cue),
+        Search::BadList => Err(AnlzRefusal::CueList),
     }
 }
 
@@ -210,24 +204,21 @@ fn search_section(search: Search, file: &[u8], section: Section) -> Search
 }
 
 // Cue k of the lists from a place in the file on.
-fn cue_from(place: usize, file: &[u8], k: u64) -> CueReply
+fn cue_from(place: usize, file: &[u8], k: u64) -> Result<Cue, AnlzRefusal>
     requires { place ≤ length file.now }
-    ensures { cue_reply_of result ≡ cue_from file.now place k }
+    ensures { anlz_answer_of result ≡ cue_from file.now place k }
 {
     let mut at = place;
     let mut search = Search::Left(k);
     while at < file.len() {
         let cursor = Cursor { place: at };
-        match cursor.step(file) {
-            Step::End => {
+        match cursor.step(file)? {
+            None => {
                 return end(search);
             }
-            Step::Found(section) => {
+            Some(section) => {
                 search = search_section(search, file, section);
                 at = section.end;
-            }
-            Step::Refused(refusal) => {
-                return CueReply::Refused(refusal);
             }
         }
     }
@@ -235,12 +226,9 @@ fn cue_from(place: usize, file: &[u8], k: u64) -> CueReply
 }
 
 // Cue k of an ANLZ file, from 0, counted through all its cue lists. Every list is judged, also behind the one with cue k.
-pub fn cue_at(file: &[u8], k: u64) -> CueReply
-    ensures { cue_reply_of result ≡ ask_cue file.now k }
+pub fn cue_at(file: &[u8], k: u64) -> Result<Cue, AnlzRefusal>
+    ensures { anlz_answer_of result ≡ ask_cue file.now k }
 {
-    let start = Cursor::start(file);
-    match start {
-        Start::At(cursor) => cue_from(cursor.place, file, k),
-        Start::Refused(refusal) => CueReply::Refused(refusal),
-    }
+    let cursor = Cursor::start(file)?;
+    cue_from(cursor.place, file, k)
 }

@@ -1,5 +1,5 @@
 -- The verdict on a delivery (specs/Deliver), case by case, and what it tells. Rule 2.27.
---     block_inside                                 a block of the file lies inside the image
+--     block_inside, word_inside                    a block of the file lies inside the image, and its word inside the map
 --     call_refuses, number_refused, size_refused, bytes_refused, is_same, is_new    the verdict in each case
 --     passed, new_absent                           what is known where it is not a refusal, and where it is New
 --     refused_outcome, counted_outcome             the whole delivery, from what the calls of `deliver` give
@@ -7,7 +7,7 @@
 use mathlib.Core.Path.{◌≡◌, ◌∙◌}
 use mathlib.Core.Bool.{true, false}
 use mathlib.Core.List.{List}
-use Prim.Native.Nat.{ℕ, ◌+◌, ◌*◌, ◌<◌, ◌≤◌}
+use Prim.Native.Nat.{ℕ, ◌+◌, ◌*◌, ◌/◌, ◌<◌, ◌≤◌}
 use native.Mathlib.Omega.{arith}
 use lib.ListN.{length}
 use borrow.Author.Tests.{le-leb, lt-leb, eq-eqb, ne_eqb, leb-false, eqb-true, not-false}
@@ -27,6 +27,9 @@ use Rattle.intake.proofs.RulesPassed.{rule_passed, call_passes, call_refused, ca
 
 pub block_inside : (len : ℕ) (m : Memory) (block : ℕ) → Sound len m → block < block_count len → block * block_size + block_size ≤ length m.image
 block_inside len m block e h = omega (arith, (sound_accepted len m e).image_long)
+
+pub word_inside : (len : ℕ) (m : Memory) (block : ℕ) → Sound len m → block < block_count len → block / 64 < length m.map
+word_inside len m block e h = omega (arith, (sound_accepted len m e).map_long)
 
 module _ (len : ℕ) (m : Memory) (block : ℕ) (piece : List ℕ) where
   -- none of refusals 1 to 6 applies

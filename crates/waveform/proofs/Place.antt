@@ -2,7 +2,7 @@
 -- parts of a slice.
 use mathlib.Core.Path.{◌≡◌, refl}
 use mathlib.Core.Bool.{true}
-use mathlib.Core.Option.{Option, none, some}
+use Rattle.std.specs.Prelude.{Option, None, Some}
 use Prim.Native.Nat.{ℕ, ◌<◌}
 use native.Mathlib.Omega.{arith}
 use lib.Dec.{leb}
@@ -43,8 +43,8 @@ entry_in_given wave file section k e q =
     (λ p. record { holds = h; below = leb-false (len_entries tag) k p; same = cc (rw (h, p) at q) }))
     (λ h. never (cc (rw h at q)))
 
-section_placed : (file : Bytes) (number k : ℕ) (e : WaveEntry) {wave : Wave} {section : Section} → sort_of number ≡ some wave
-    → first_section file (wave_code wave) ≡ given (some section) → Given wave file section k e → EntryPlace file number k e
+section_placed : (file : Bytes) (number k : ℕ) (e : WaveEntry) {wave : Wave} {section : Section} → sort_of number ≡ Some wave
+    → first_section file (wave_code wave) ≡ given (Some section) → Given wave file section k e → EntryPlace file number k e
 section_placed file number k e {wave} {section} sort first g =
     let tag = tag_of file section in
     let inside = (wave_filled wave tag g.holds).inside k g.below in
@@ -62,9 +62,9 @@ section_placed file number k e {wave} {section} sort first g =
       bytes = part_inside file section.place section.end (entry_at (wave_width wave) k) (wave_width wave) inside;
     })
 
-not_absent : {A : Type 0} (found : Option A) {x : A} → or_absent found ≡ given x → found ≡ some x
-not_absent (some x) q = cc
-not_absent none q = never (cc q)
+not_absent : {A : Type 0} (found : Option A) {x : A} → or_absent found ≡ given x → found ≡ Some x
+not_absent (Some x) q = cc
+not_absent None q = never (cc q)
 
 pub entry_placed : EveryWaveEntry
 unfolding ask_wave first_section

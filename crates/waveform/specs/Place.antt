@@ -1,6 +1,5 @@
 -- Rule 14.28 as one statement: an entry that is answered is entry k of the first section of the sort asked, whole inside it and the file.
-use Rattle.std.specs.Prelude.{◌≡◌, ℕ, ◌+◌, ◌≤◌, length}
-use Rattle.std.proofs.Math.Option.{some}
+use Rattle.std.specs.Prelude.{◌≡◌, ℕ, ◌+◌, ◌≤◌, length, Some}
 use Rattle.lists.specs.Alias.{Bytes}
 use Rattle.lists.specs.Subslice.{subslice}
 use Rattle.refusal.specs.Answer.{given}
@@ -18,8 +17,8 @@ pub record EntryPlace (file : Bytes) (number k : ℕ) (e : WaveEntry) : Type 0 w
   -- the sort asked, and its first section
   pub wave : Wave
   pub section : Section
-  pub sort : sort_of number ≡ some wave
-  pub first : first_section file (wave_code wave) ≡ given (some section)
+  pub sort : sort_of number ≡ Some wave
+  pub first : first_section file (wave_code wave) ≡ given (Some section)
   -- the entry starts at byte `18` of the section or behind it, and ends inside the section and the file
   pub begins : section.place + entries_start ≤ e.place
   pub ends : e.place + e.width ≤ section.end

@@ -3,13 +3,13 @@
 
 ghost use Rattle.std.specs.Prelude.{◌≡◌};
 ghost use Rattle.refusal.specs.Answer.{refused};
-ghost use Rattle.anlz.specs.Fault.{anlz_fault};
-ghost use Rattle.waveform.specs.Sort.{sort_of, wave_code, wave_sort_of};
+ghost use Rattle.anlz.specs.Fault.{anlz_fault, anlz_answer_of};
+ghost use Rattle.waveform.specs.Sort.{wave_code};
 ghost use Rattle.waveform.specs.Wave.{wave_width, count_holds, wave_holds, entry_in};
-ghost use Rattle.waveform.specs.Questions.{ask_wave, wave_reply_of};
+ghost use Rattle.waveform.specs.Questions.{WaveOf, ask_wave};
 ghost use Rattle.waveform.specs.Private.{ask_known, ask_absent};
 
-use anlz::{AnlzRefusal, First, Section};
+use anlz::{AnlzRefusal, Section};
 use entries::Entries;
 
 // The codes of the sections that hold waveforms.
@@ -20,49 +20,39 @@ const PWV4: u32 = 0x5057_5634;
 const PWV5: u32 = 0x5057_5635;
 
 // The sorts of waveform that can be asked for.
-#[derive(Clone, Copy)]
+#[derive(Clone, Copy, Debug, PartialEq, Eq)]
 pub enum Wave {
     Detail,
     ColorPreview,
     ColorDetail,
 }
 
-// What a sort's number names.
-#[derive(Drop)]
-pub enum WaveSort {
-    Known(Wave),
-    Absent,
-}
-
 // An entry: where it starts in the file, and how many bytes it has.
-#[derive(Drop)]
+#[derive(Clone, Copy, Debug, PartialEq, Eq)]
 pub struct WaveEntry {
     pub place: usize,
     pub width: u32,
 }
 
-// One entry.
-#[derive(Drop)]
-pub enum WaveReply {
-    Found(WaveEntry),
-    Refused(AnlzRefusal),
+// The sort of a number.
+impl TryFrom<u64> for Wave {
+    type Error = AnlzRefusal;
+
+    ghost try_from_gives = { WaveOf };
+
+    fn try_from(number: u64) -> Result<Self, AnlzRefusal> {
+        match number {
+            3 => Ok(Wave::Detail),
+            4 => Ok(Wave::ColorPreview),
+            5 => Ok(Wave::ColorDetail),
+            _ => Err(AnlzRefusal::Absent),
+        }
+    }
 }
 
 impl Wave {
     // How many entries a color preview has.
     const PREVIEW_ENTRIES: u32 = 1200;
-
-    // The sort of a number.
-    fn new(number: u64) -> WaveSort
-        ensures { wave_sort_of result ≡ sort_of number }
-    {
-        match number {
-            3 => WaveSort::Known(Wave::Detail),
-            4 => WaveSort::Known(Wave::ColorPreview),
-            5 => WaveSort::Known(Wave::ColorDetail),
-            _ => WaveSort::Absent,
-        }
-    }
 
     // The code of its section.
     fn code(self) -> u32
@@ -115,31 +105,28 @@ impl Wave {
     }
 
     // Entry k of this section.
-    fn entry_in(self, file: &[u8], section: Section, k: u64) -> WaveReply
-        ensures { wave_reply_of result ≡ entry_in self file.now section k }
+    fn entry_in(self, file: &[u8], section: Section, k: u64) -> Result<WaveEntry, AnlzRefusal>
+        ensures { anlz_answer_of result ≡ entry_in self file.now section k }
     {
         let tag = section.bytes(file);
         if !self.holds(tag) {
-            return WaveReply::Refused(AnlzRefusal::Waveform);
+            return Err(AnlzRefusal::Waveform);
         }
         if (number::u32_be_at(tag, 0x10) as u64) <= k {
-            return WaveReply::Refused(AnlzRefusal::Absent);
+            return Err(AnlzRefusal::Absent);
         }
         let width = self.width();
         let place = section.place + (Entries::START + (width as usize) * (k as usize));
-        WaveReply::Found(WaveEntry { place, width })
+        Ok(WaveEntry { place, width })
     }
 
     // Entry k of the first section of this sort.
-    fn entry(self, file: &[u8], k: u64) -> WaveReply
-        ensures { wave_reply_of result ≡ ask_known self file.now k }
+    fn entry(self, file: &[u8], k: u64) -> Result<WaveEntry, AnlzRefusal>
+        ensures { anlz_answer_of result ≡ ask_known self file.now k }
     {
-        let first = anlz::first_section(file, self.code());
-        match first {
-            First::Absent => WaveReply::Refused(AnlzRefusal::Absent),
-            First::Found(section) => self.entry_in(file, section, k),
-            First::Refused(refusal) => WaveReply::Refused(refusal),
-        }
+        let first = anlz::first_section(file, self.code())?;
+        let section = first.ok_or(AnlzRefusal::Absent)?;
+        self.entry_in(file, section, k)
     }
 }
 
@@ -147,21 +134,18 @@ impl Wave {
 fn absent_sort(file: &[u8]) -> AnlzRefusal
     ensures { refused (anlz_fault result) ≡ ask_absent file.now }
 {
-    let first = anlz::first_section(file, PWV3);
-    match first {
-        First::Absent => AnlzRefusal::Absent,
-        First::Found(_) => AnlzRefusal::Absent,
-        First::Refused(refusal) => refusal,
+    match anlz::first_section(file, PWV3) {
+        Ok(_) => AnlzRefusal::Absent,
+        Err(refusal) => refusal,
     }
 }
 
 // Entry k of the waveform of a sort, from 0, by its place in the file.
-pub fn entry(file: &[u8], sort: u64, k: u64) -> WaveReply
-    ensures { wave_reply_of result ≡ ask_wave file.now sort k }
+pub fn entry(file: &[u8], sort: u64, k: u64) -> Result<WaveEntry, AnlzRefusal>
+    ensures { anlz_answer_of result ≡ ask_wave file.now sort k }
 {
-    let wave = Wave::new(sort);
-    match wave {
-        WaveSort::Known(wave) => wave.entry(file, k),
-        WaveSort::Absent => WaveReply::Refused(absent_sort(file)),
+    match Wave::try_from(sort) {
+        Ok(wave) => wave.entry(file, k),
+        Err(_) => Err(absent_sort(file)),
     }
 }

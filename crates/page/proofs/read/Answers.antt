@@ -1,20 +1,13 @@
 -- `page::read` meets its contract: what the tests of the page leave says what answers (proofs/PageTests).
-use mathlib.Core.Path.{sym, ◌∙◌}
-use lib.Seq.{length-take-le}
+use mathlib.Core.Path.{◌∙◌}
 use Rattle.std.proofs.lemmas.Result.{err_from_is_err_and}
-use Rattle.page.proofs.PageTests.{index_told, entries_inside, start_inside, counted_rows, no_rows, rows_refused}
+use Rattle.page.proofs.PageTests.{index_told, counted_rows, no_rows, rows_refused}
 use Rattle.page.proofs.read.Goals as goal
 
 pub returns-in_err-index : goal.returns-in_err-index
 returns-in_err-index c =
     let e = err_from_is_err_and c.from_residual.result c.from_residual.ensures.1 in
     rw (e.1, e.2) (rows_refused _ _ _ c.test_page.ensures c.in_err-index.was)
-
-pub slice_bounds-read_rows-end : goal.slice_bounds-read_rows-end
-slice_bounds-read_rows-end c = sym (length-take-le _ _ (start_inside _ _ _ (index_told _ _ _ c.test_page.ensures (rw c.in-Some.is at c.in_ok-index.was))))
-
-pub read_rows-requires : goal.read_rows-requires
-read_rows-requires c = entries_inside _ _ _ (index_told _ _ _ c.test_page.ensures (rw c.in-Some.is at c.in_ok-index.was))
 
 pub returns-in-Some : goal.returns-in-Some
 returns-in-Some c = c.read_rows.ensures ∙ counted_rows _ _ _ (index_told _ _ _ c.test_page.ensures (rw c.in-Some.is at c.in_ok-index.was))

@@ -3,8 +3,8 @@ use mathlib.Core.Path.{◌∙◌}
 use Rattle.waveform.proofs.SectionAsked.{ask-known, ask-absent}
 use Rattle.waveform.proofs.entry.Goals as goal
 
-pub returns-in-Known : goal.returns-in-Known
-returns-in-Known c = c.entry.ensures ∙ ask-known _ _ _ (rw c.in-Known.is at c.new-wave.ensures)
+pub returns-in-Ok : goal.returns-in-Ok
+returns-in-Ok c = c.entry.ensures ∙ ask-known _ _ _ (rw c.in-Ok.is at c.try_from.ensures)
 
-pub returns-in-Absent : goal.returns-in-Absent
-returns-in-Absent c = c.absent_sort.ensures ∙ ask-absent _ _ _ (rw c.in-Absent.is at c.new-wave.ensures)
+pub returns-in-Err : goal.returns-in-Err
+returns-in-Err c = c.absent_sort.ensures ∙ ask-absent _ _ _ (rw c.in-Err.is at c.try_from.ensures)

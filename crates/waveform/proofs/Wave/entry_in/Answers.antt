@@ -1,7 +1,6 @@
 -- `waveform::Wave::entry_in` meets its contract: its tests are those of `entry_in`, in that order, and the place is in the file (proofs/EntryIn).
 use mathlib.Core.Path.{sym, ◌∙◌}
 use native.Mathlib.Omega.{arith}
-use Rattle.entries.proofs.Filled.{product_most}
 use Rattle.waveform.proofs.EntryIn.{wave_bad, entry_past, entry_given, entry_room}
 use Rattle.waveform.proofs.Wave.entry_in.Goals as goal
 
@@ -10,12 +9,6 @@ returns-then-not-holds c = wave_bad _ _ _ _ c.bytes-tag.ensures (sym c.holds.ens
 
 pub returns-then-u32_be_at-k : goal.returns-then-u32_be_at-k
 returns-then-u32_be_at-k c = entry_past _ _ _ _ c.bytes-tag.ensures (sym c.holds.ensures ∙ c.if-not-holds.false) c.u32_be_at.ensures (omega arith)
-
-pub overflow_mul-place : goal.overflow_mul-place
-overflow_mul-place c = let a = c.args in omega (arith, product_most c.width-width.result a.k (omega arith) (omega arith))
-
-pub overflow_add-place : goal.overflow_add-place
-overflow_add-place c = let a = c.args in omega (arith, product_most c.width-width.result a.k (omega arith) (omega arith))
 
 pub overflow_add-place-2 : goal.overflow_add-place-2
 overflow_add-place-2 c =
