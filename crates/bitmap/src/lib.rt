@@ -1,8 +1,7 @@
 // The map of a file: a bit for each block, in 64-bit words (rules 1.7 to 1.9, 1.17 and 2.4).
 #![tactic(auto)]
 
-ghost use Rattle.std.specs.Prelude.{◌≡◌, ◌*◌, ◌<◌, ◌≤◌, ◌^◌, length};
-ghost use Rattle.std.specs.Int.Count.{ones};
+ghost use Rattle.std.specs.Prelude.{◌≡◌, ◌<◌, ◌^◌, length};
 ghost use Rattle.bitmap.specs.Words.{block_count, word_count};
 ghost use Rattle.bitmap.specs.Bit.{word_at, bit};
 ghost use Rattle.bitmap.specs.Count.{ones_in, held_count};
@@ -21,17 +20,18 @@ pub fn block_count(len: u64) -> u64
 pub fn word_count(len: u64) -> u64
     ensures { result ≡ word_count len }
 {
-    (block_count(len) + 63) / 64
+    block_count(len).div_ceil(64)
 }
 
 // A word of the map, 0 past its end.
-fn word_at(map: &[u64], i: u64) -> u64
+pub fn word_at(map: &[u64], i: u64) -> u64
     ensures { result ≡ word_at map.now i }
 {
     map.get(i as usize).copied().unwrap_or(0)
 }
 
 // Whether a block's bit is set in the map.
+#[tactic(auto, unfolding(crate::specs::Bit::bit))]
 pub fn has_bit(map: &[u64], block: u64) -> bool
     ensures { result ≡ bit map.now block }
 {
@@ -47,6 +47,7 @@ fn ones(words: &[u64]) -> u64
 }
 
 // The held count of a file of a given length.
+#[tactic(auto, using(std::proofs::lemmas::List::take_min), unfolding(crate::specs::Count::held_count))]
 pub fn held_count(len: u64, map: &[u64]) -> u64
     ensures { result ≡ held_count len map.now }
 {

@@ -4,7 +4,7 @@
 ghost use Rattle.c_reply.specs.Reply.{reply, Replied};
 
 // A code that a function of the C interface returns. A refusal has its own number.
-#[derive(Drop)]
+#[derive(Clone, Copy, Debug, PartialEq, Eq)]
 pub struct Code {
     pub number: u32,
 }
@@ -25,13 +25,11 @@ impl Code {
 pub fn put(code: u32, values: &[u64], res: &mut [u64]) -> u32
     ensures { Replied (reply code values.now) result res.old res.new }
 {
-    let mut i = 0;
-    while i < values.len() {
+    for (i, value) in values.iter().enumerate() {
         if res.len() <= i {
             return code;
         }
-        res[i] = values[i];
-        i += 1;
+        res[i] = *value;
     }
     code
 }

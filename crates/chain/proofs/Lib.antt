@@ -4,7 +4,9 @@
 --     FuelEnough, PagesPassed          pages walked differ, so the fuel never runs out, and rows found are theirs
 --     EndsAtLast, ChainFaults          where a walk ends, Full or refused
 --     SameWalk, WalkGrows, FileAgree   the same pages give the same walk, more pages a longer one; the bytes it depends on
---     HeldLoop, WalkLoop, FillLoop, RowLoop     the loops of the code, by their invariants
+--     BlocksHeld                       a page is held where each of its blocks is
+--     WalkLoop, FillLoop, RowLoop      the loops of the code, by their invariants
+--     ReplyThen                        what follows an answer about a row
 --     ChainPlaces                      in an allowed file, the places written are those of the rows found
 pub mod Linkable
 pub mod WalkStep
@@ -16,9 +18,10 @@ pub mod EndsAtLast
 pub mod ChainFaults
 pub mod WalkLoop
 pub mod PagePart
-pub mod HeldLoop
+pub mod BlocksHeld
 pub mod PageRead
 pub mod FillLoop
 pub mod RowLoop
+pub mod ReplyThen
 pub mod ChainPlaces
 pub mod FileAgree

@@ -6,11 +6,10 @@ use lib.ListN.{length}
 use Rattle.lists.specs.Alias.{Bytes}
 use Rattle.refusal.specs.declared.Refusal.{Refusal}
 use Rattle.refusal.specs.Fault.{fault_of}
-use Rattle.refusal.specs.Answer.{Answer, given, refused}
+use Rattle.refusal.specs.Answer.{Answer, given, refused, answer_of}
 use Rattle.table.specs.declared.Table.{Table}
-use Rattle.page.specs.declared.PageRead.{PageRead}
-use Rattle.page.specs.declared.PageRead.TheVariants.{Counted, Refused}
-use Rattle.page.specs.Read.{read_page, row_count, page_read_of}
+use Rattle.std.specs.Prelude.{Result, Ok, Err}
+use Rattle.page.specs.Read.{read_page, row_count}
 use Rattle.page.specs.Found.{Rows}
 use Rattle.chain.specs.File.{page_part}
 use Rattle.lists.proofs.Choice.{never}
@@ -18,13 +17,13 @@ use Rattle.page.proofs.RowEntries.{rows_short}
 use Rattle.page.proofs.PageAnswer.{page_many}
 use Rattle.chain.proofs.PagePart.{part_short}
 
-module _ {page : Bytes} (size : ℕ) (image : Bytes) (number : ℕ) (table : Table) (p : page ≡ page_part size image number) {r : PageRead}
-    (e : page_read_of r ≡ row_count (read_page number table page)) where
-  pub read_given : {found : ℕ} → r ≡ Counted found → given found ≡ row_count (read_page number table (page_part size image number))
-  read_given k = ap page_read_of (sym k) ∙ e ∙ rw p
+module _ {page : Bytes} (size : ℕ) (image : Bytes) (number : ℕ) (table : Table) (p : page ≡ page_part size image number) {r : Result ℕ Refusal}
+    (e : answer_of r ≡ row_count (read_page number table page)) where
+  pub read_given : {found : ℕ} → r ≡ Ok found → given found ≡ row_count (read_page number table (page_part size image number))
+  read_given k = ap answer_of (sym k) ∙ e ∙ rw p
 
-  pub read_refused : {f : Refusal} → r ≡ Refused f → refused (fault_of f) ≡ row_count (read_page number table (page_part size image number))
-  read_refused k = ap page_read_of (sym k) ∙ e ∙ rw p
+  pub read_refused : {f : Refusal} → r ≡ Err f → refused (fault_of f) ≡ row_count (read_page number table (page_part size image number))
+  read_refused k = ap answer_of (sym k) ∙ e ∙ rw p
 
 count_short : (number : ℕ) (table : Table) (page : Bytes) (a : Answer Rows) → read_page number table page ≡ a → (found : ℕ) → given found ≡ row_count a
     → found ≤ length page

@@ -20,34 +20,34 @@ pub row_on : (size : ℕ) (image : Bytes) (number k : ℕ) {part : Bytes} {found
 unfolding rows_on
 row_on size image number k p e = e ∙ rw p
 
--- pages before this one are done, and their rows come before row k
-pub record Locating (size : ℕ) (image : Bytes) (first pages k page left found : ℕ) : Type 0 where
+-- i pages are done, this page is next, and the rows of those before come before row k
+pub record Locating (size : ℕ) (image : Bytes) (first pages k page i found : ℕ) : Type 0 where
   pub before : found ≤ k
-  pub rest : nth no_row (rows_first size image pages first) k 0 ≡ nth no_row (rows_first size image left page) (k - found) found
+  pub rest : nth no_row (rows_first size image pages first) k 0 ≡ nth no_row (rows_first size image (pages - i) page) (k - found) found
 
-pub begin : (size : ℕ) (image : Bytes) (first pages k : ℕ) → Locating size image first pages k first pages 0
-begin size image first pages k = record { before = omega arith; rest = rw (sub-zero k) }
+pub begin : (size : ℕ) (image : Bytes) (first pages k : ℕ) → Locating size image first pages k first 0 0
+begin size image first pages k = record { before = omega arith; rest = rw (sub-zero k, sub-zero pages) }
 
-module _ {size : ℕ} {image : Bytes} {first pages k page left found : ℕ} (l : Locating size image first pages k page left found) where
-  pub end : left ≤ 0 → past found ≡ nth no_row (rows_first size image pages first) k 0
+module _ {size : ℕ} {image : Bytes} {first pages k page i found : ℕ} (l : Locating size image first pages k page i found) where
+  pub end : pages ≤ i → past found ≡ nth no_row (rows_first size image pages first) k 0
   end h =
-      sym (l.rest ∙ rw (along_end (page_next size image) (rows_on size image) left page h) (nth_none no_row (k - found) found))
+      sym (l.rest ∙ rw (along_end (page_next size image) (rows_on size image) pages i page h) (nth_none no_row (k - found) found))
 
-  pub here : {at : Row} → 0 < left → element at ≡ nth no_row (rows_on size image page) (k - found) 0
+  pub here : {at : Row} → i < pages → element at ≡ nth no_row (rows_on size image page) (k - found) 0
       → element at ≡ nth no_row (rows_first size image pages first) k 0
   here {at} h e =
-      nth_front no_row (rows_on size image page) (rows_first size image (left - 1) (page_next size image page)) (k - found) found e
-      ∙ sym (l.rest ∙ rw (along_more (page_next size image) (rows_on size image) left page h))
+      nth_front no_row (rows_on size image page) (rows_first size image (pages - (i + 1)) (page_next size image page)) (k - found) found e
+      ∙ sym (l.rest ∙ rw (along_more (page_next size image) (rows_on size image) pages i page h))
 
   pub still_before : {n : ℕ} → past n ≡ nth no_row (rows_on size image page) (k - found) 0 → found + n ≤ k
   still_before e = omega (arith, (past_front no_row (rows_on size image page) [] (k - found) 0 e).0, l.before)
 
-  pub next : {n page' : ℕ} → 0 < left → past n ≡ nth no_row (rows_on size image page) (k - found) 0 → page' ≡ page_next size image page
-      → Locating size image first pages k page' (left - 1) (found + n)
+  pub next : {n page' : ℕ} → i < pages → past n ≡ nth no_row (rows_on size image page) (k - found) 0 → page' ≡ page_next size image page
+      → Locating size image first pages k page' (i + 1) (found + n)
   next {n} {page'} h e p =
-      let passed = past_front no_row (rows_on size image page) (rows_first size image (left - 1) (page_next size image page)) (k - found) found e in
+      let passed = past_front no_row (rows_on size image page) (rows_first size image (pages - (i + 1)) (page_next size image page)) (k - found) found e in
       let less : k - found - n ≡ k - (found + n) = omega arith in
       record {
         before = still_before e;
-        rest = l.rest ∙ rw (along_more (page_next size image) (rows_on size image) left page h, p, ← less) passed.1;
+        rest = l.rest ∙ rw (along_more (page_next size image) (rows_on size image) pages i page h, p, ← less) passed.1;
       }

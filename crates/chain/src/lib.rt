@@ -6,25 +6,92 @@ ghost use Rattle.lists.specs.Nth.{nth};
 ghost use Rattle.lists.specs.Write.{written};
 ghost use Rattle.directory.specs.Chain.{chain_in};
 ghost use Rattle.chain.specs.Walk.{walk_from};
-ghost use Rattle.chain.specs.Tally.{tally, walked_of};
+ghost use Rattle.chain.specs.Tally.{rows_counted, pages_counted, tally, progress_of, walked_of};
+ghost use Rattle.chain.specs.Found.{MapsFound, FollowsFound};
 ghost use Rattle.chain.specs.Held.{page_held};
 ghost use Rattle.page.specs.Found.{no_row};
 ghost use Rattle.page.specs.Row.{row_at_of};
 ghost use Rattle.chain.specs.File.{page_part, file_pages, rows_first, page_places, places_along};
 ghost use Rattle.chain.specs.Chain.{chain_walk, chain_rows, chain_places};
 
-use directory::{Chain, ChainReply, Directory};
+use directory::{Chain, Directory};
 use format::{Block, Page};
-use page::{PageRead, RowAt};
+use page::Row;
 use refusal::Refusal;
 use table::Table;
 
-// What a walk answers, Full and Waiting with the number of rows found and of pages walked.
-#[derive(Drop)]
+// How far a walk comes, with the number of rows found and of pages walked; Waiting is for a page that is not held.
+#[derive(Clone, Copy, Debug, PartialEq, Eq)]
 pub enum Walked {
     Full { rows: usize, pages: u64 },
     Waiting { page: u32, rows: usize, pages: u64 },
-    Refused(Refusal),
+}
+
+// What a question about one row answers: what was asked for, or the page that the walk waits for.
+#[derive(Clone, Copy, Debug, PartialEq, Eq)]
+pub enum Reply<T> {
+    Found(T),
+    Waiting { page: u32, rows: usize, pages: u64 },
+}
+
+impl Walked {
+    // The number of rows found.
+    pub fn rows(self) -> usize
+        ensures { result ≡ rows_counted (progress_of self) }
+    {
+        match self {
+            Walked::Full { rows, .. } => rows,
+            Walked::Waiting { rows, .. } => rows,
+        }
+    }
+
+    // The number of pages walked.
+    pub fn pages(self) -> u64
+        ensures { result ≡ pages_counted (progress_of self) }
+    {
+        match self {
+            Walked::Full { pages, .. } => pages,
+            Walked::Waiting { pages, .. } => pages,
+        }
+    }
+}
+
+impl<T> Reply<T> {
+    // Waiting for a page before any row was found.
+    pub fn waiting(page: u32) -> Self
+        ensures { result ≡ Reply.Waiting page 0 0 }
+    {
+        Reply::Waiting {
+            page,
+            rows: 0,
+            pages: 0,
+        }
+    }
+
+    // What becomes of what was found.
+    pub fn map<U, F: FnOnce(T) -> U>(self, becomes: F) -> Reply<U>
+        requires { F.IsAlwaysCallable becomes }
+        ensures { MapsFound (F.post becomes) self result }
+    {
+        match self {
+            Reply::Found(found) => Reply::Found(becomes(found)),
+            Reply::Waiting { page, rows, pages } => Reply::Waiting { page, rows, pages },
+        }
+    }
+
+    // What follows where something was found.
+    pub fn and_then<U, E, F: FnOnce(T) -> Result<Reply<U>, E>>(
+        self,
+        follows: F,
+    ) -> Result<Reply<U>, E>
+        requires { F.IsAlwaysCallable follows }
+        ensures { FollowsFound (F.post follows) self result }
+    {
+        match self {
+            Reply::Found(found) => follows(found),
+            Reply::Waiting { page, rows, pages } => Ok(Reply::Waiting { page, rows, pages }),
+        }
+    }
 }
 
 // Whether every block of a page is held.
@@ -33,14 +100,7 @@ pub fn is_held(size: u32, number: u32, map: &[u64]) -> bool
 {
     let blocks = (size as u64) / (Block::SIZE as u64);
     let first = (number as u64) * blocks;
-    let mut i: u64 = 0;
-    while i < blocks {
-        if !bitmap::has_bit(map, first + i) {
-            return false;
-        }
-        i += 1;
-    }
-    true
+    (0..blocks).all(|i| bitmap::has_bit(map, first + i))
 }
 
 // A page's part of the image, as far as the image has it.
@@ -75,7 +135,7 @@ fn is_again(page: u32, mark: u32, pages: u64, page_count: u64) -> bool
 
 // Walks a chain. The pages met are not kept: the walk counts, and keeps one page as a mark, a later one each time the
 // pages walked have doubled, so that a loop of any length meets the mark again after a few turns.
-fn walk_chain(chain: Chain, table: Table, image: &[u8], map: &[u64]) -> Walked
+fn walk_chain(chain: Chain, table: Table, image: &[u8], map: &[u64]) -> Result<Walked, Refusal>
     ensures { walked_of result ≡ tally (walk_from (file_pages chain table image.now map.now) chain.first_page) }
 {
     let mut page = chain.first_page;
@@ -85,19 +145,16 @@ fn walk_chain(chain: Chain, table: Table, image: &[u8], map: &[u64]) -> Walked
     let mut mark: u32 = 0;
     while Page::linkable(chain.page_count, page) {
         if is_again(page, mark, pages, chain.page_count) {
-            return Walked::Refused(Refusal::ChainLoop);
+            return Err(Refusal::ChainLoop);
         }
         if !is_held(chain.len_page, page, map) {
-            return Walked::Waiting { page, rows, pages };
+            return Ok(Walked::Waiting { page, rows, pages });
         }
         let bytes = part(image, page, chain.len_page);
-        match page::read(bytes, page, table) {
-            PageRead::Refused(refusal) => return Walked::Refused(refusal),
-            PageRead::Counted(found) => rows += found,
-        }
+        rows += page::read(bytes, page, table)?;
         pages += 1;
         if page == chain.last_page {
-            return Walked::Full { rows, pages };
+            return Ok(Walked::Full { rows, pages });
         }
         if u64::count_ones(pages) == 1 {
             mark = page;
@@ -105,18 +162,20 @@ fn walk_chain(chain: Chain, table: Table, image: &[u8], map: &[u64]) -> Walked
         holder = page;
         page = page::next(bytes);
     }
-    Walked::Refused(Refusal::PageLink(holder))
+    Err(Refusal::PageLink(holder))
 }
 
 // Walks the chain of a table.
-pub fn walk(directory: Directory, table: Table, image: &[u8], map: &[u64]) -> Walked
+pub fn walk(
+    directory: Directory,
+    table: Table,
+    image: &[u8],
+    map: &[u64],
+) -> Result<Walked, Refusal>
     ensures { walked_of result ≡ tally (chain_walk table image.now map.now (chain_in directory table)) }
 {
-    let chain = directory.chain(table);
-    match chain {
-        ChainReply::Found(found) => walk_chain(found, table, image, map),
-        ChainReply::Refused(refusal) => Walked::Refused(refusal),
-    }
+    let chain = directory.chain(table)?;
+    walk_chain(chain, table, image, map)
 }
 
 // Writes the places of a page's rows to the front of the list, as many as it takes, and counts them.
@@ -137,16 +196,14 @@ fn fill_along(size: u32, first: u32, pages: u64, image: &[u8], list: &mut [u32])
     ensures { list.new ≡ written list.old (places_along size image.now pages first) }
 {
     let mut page = first;
-    let mut left = pages;
     let mut at: usize = 0;
-    while 0 < left {
+    for _ in 0..pages {
         let found = fill_page(size, page, image, &mut list[at..]);
         if list.len() - at < found {
             return;
         }
         at += found;
         page = page::next(part(image, page, size));
-        left -= 1;
     }
 }
 
@@ -155,50 +212,40 @@ fn fill_along(size: u32, first: u32, pages: u64, image: &[u8], list: &mut [u32])
 pub fn fill(directory: Directory, table: Table, pages: u64, image: &[u8], list: &mut [u32])
     ensures { list.new ≡ written list.old (chain_places image.now pages (chain_in directory table)) }
 {
-    let chain = directory.chain(table);
-    match chain {
-        ChainReply::Found(found) => fill_along(
-            found.len_page,
-            found.first_page,
-            pages,
-            image,
-            list,
-        ),
-        ChainReply::Refused(_) => {}
+    if let Ok(chain) = directory.chain(table) {
+        fill_along(chain.len_page, chain.first_page, pages, image, list);
     }
 }
 
-// Row k on the first pages of a chain.
-fn row_along(size: u32, first: u32, pages: u64, image: &[u8], k: usize) -> RowAt
+// Row k on the first pages of a chain, or how many rows they have.
+fn row_along(size: u32, first: u32, pages: u64, image: &[u8], k: usize) -> Result<Row, usize>
     ensures { row_at_of result ≡ nth no_row (rows_first size image.now pages first) k 0 }
 {
     let mut page = first;
-    let mut left = pages;
     let mut found: usize = 0;
-    while 0 < left {
+    for _ in 0..pages {
         let bytes = part(image, page, size);
-        let row = page::row_at(bytes, page, k - found);
-        match row {
-            RowAt::Found(here) => {
-                return RowAt::Found(here);
-            }
-            RowAt::Past(rows) => {
-                found += rows;
-            }
+        match page::row_at(bytes, page, k - found) {
+            Ok(row) => return Ok(row),
+            Err(rows) => found += rows,
         }
         page = page::next(bytes);
-        left -= 1;
     }
-    RowAt::Past(found)
+    Err(found)
 }
 
-// Row k on the first pages of a table's chain, which a walk has counted.
-pub fn row(directory: Directory, table: Table, pages: u64, image: &[u8], k: usize) -> RowAt
+// Row k on the first pages of a table's chain, which a walk has counted; or how many rows they have.
+pub fn row(
+    directory: Directory,
+    table: Table,
+    pages: u64,
+    image: &[u8],
+    k: usize,
+) -> Result<Row, usize>
     ensures { row_at_of result ≡ nth no_row (chain_rows image.now pages (chain_in directory table)) k 0 }
 {
-    let chain = directory.chain(table);
-    match chain {
-        ChainReply::Found(found) => row_along(found.len_page, found.first_page, pages, image, k),
-        ChainReply::Refused(_) => RowAt::Past(0),
+    match directory.chain(table) {
+        Ok(chain) => row_along(chain.len_page, chain.first_page, pages, image, k),
+        Err(_) => Err(0),
     }
 }

@@ -10,7 +10,8 @@ use Rattle.lists.specs.Alias.{Places}
 use Rattle.refusal.specs.Answer.{given, refused}
 use Rattle.page.specs.Found.{Rows, place_of, places}
 use Rattle.chain.specs.Walk.{Progress, Walk, full, waiting}
-use Rattle.export.specs.Rows.{rows_counted, rows_written, rows_found, rows_answer, list_after, settle_rows}
+use Rattle.chain.specs.Tally.{rows_counted}
+use Rattle.export.specs.Rows.{rows_written, rows_found, rows_answer, list_after, settle_rows}
 use Rattle.depend.specs.Depend.{SameRows}
 use Rattle.lists.proofs.Sets.{written_front}
 use Rattle.lists.proofs.Choice.{on, never}

@@ -3,27 +3,15 @@
 // theorem alone.
 #![tactic(auto)]
 
-use intake::Opened;
-use page::PageRead;
-use refusal::Refusal;
-use row::Check;
+use refusal::{Fault, Refusal};
+use row::RowError;
 use std::io;
 use table::Table;
-use text::Text;
-
-fn say(rt: &impl Print, word: &str, n: u64) -> io::Result<()> {
-    println!(rt; "{word}{n}")
-}
-
-fn say_refused(rt: &impl Print, refusal: Refusal) -> io::Result<()> {
-    let fault = refusal.fault();
-    say(rt, "refused ", fault.number as u64)
-}
 
 fn say_open(rt: &impl Print, len: u64, image: &[u8], map: &mut [u64]) -> io::Result<()> {
     match intake::open(len, image, map) {
-        Opened::Open { intake: _, blocks } => say(rt, "open ", blocks),
-        Opened::Refused(refusal) => say_refused(rt, refusal),
+        Ok(opened) => println!(rt; "open {}", opened.blocks),
+        Err(refusal) => println!(rt; "{refusal}"),
     }
 }
 
@@ -49,8 +37,8 @@ fn set_header(page: &mut [u8], counts: u32) {
 // What reading the page answers, as a page of this number and table.
 fn say_read(rt: &impl Print, page: &[u8], number: u32, table: Table) -> io::Result<()> {
     match page::read(page, number, table) {
-        PageRead::Counted(rows) => say(rt, "rows ", rows as u64),
-        PageRead::Refused(refusal) => say_refused(rt, refusal),
+        Ok(rows) => println!(rt; "rows {rows}"),
+        Err(refusal) => println!(rt; "{refusal}"),
     }
 }
 
@@ -83,20 +71,14 @@ fn say_part(rt: &impl Print, row: &[u8], place: usize, len: usize) -> io::Result
 
 // A genre row: four bytes of id, then the string.
 fn say_name(rt: &impl Print, row: &[u8]) -> io::Result<()> {
+    let fault = Refusal::TextFault { page: 1, entry: 0 };
     match row::check_row(Table::Genres, row) {
-        Check::Good => {
-            let found = row::slot_text(Table::Genres, row, 0);
-            match found {
-                Text::At {
-                    place,
-                    len,
-                    encoding: _,
-                } => say_part(rt, row, place, len),
-                Text::Malformed => say_refused(rt, Refusal::TextFault { page: 1, entry: 0 }),
-            }
-        }
-        Check::RowFault => say_refused(rt, Refusal::RowShort { page: 1, entry: 0 }),
-        Check::TextFault => say_refused(rt, Refusal::TextFault { page: 1, entry: 0 }),
+        Ok(()) => match row::slot_text(Table::Genres, row, 0) {
+            Some(text) => say_part(rt, row, text.place, text.len),
+            None => println!(rt; "{fault}"),
+        },
+        Err(RowError::Row) => println!(rt; "{}", Refusal::RowShort { page: 1, entry: 0 }),
+        Err(RowError::Text) => println!(rt; "{fault}"),
     }
 }
 
@@ -134,17 +116,14 @@ fn bad_names(rt: &impl Print, page: &mut [u8]) -> io::Result<()> {
 // The entry that the refusal of the page carries, 0 where it is read.
 fn fault_entry(page: &[u8]) -> u64 {
     match page::read(page, 1, Table::Genres) {
-        PageRead::Counted(_) => 0,
-        PageRead::Refused(refusal) => {
-            let fault = refusal.fault();
-            fault.entry as u64
-        }
+        Ok(_) => 0,
+        Err(refusal) => u64::from(Fault::from(refusal).entry),
     }
 }
 
 fn say_entry(rt: &impl Print, page: &mut [u8], counts: u32) -> io::Result<()> {
     say_page(rt, page, counts)?;
-    say(rt, "entry ", fault_entry(page))
+    println!(rt; "entry {}", fault_entry(page))
 }
 
 // Malformed names where entry 1 of two is present, and entry 16 of 17.

@@ -14,14 +14,13 @@ use Rattle.refusal.specs.declared.Fault.{Fault}
 use Rattle.refusal.specs.Fault.{fault}
 use Rattle.refusal.specs.Answer.{Answer, given, refused}
 use Rattle.chain.specs.Walk.{Progress, Walk, full, waiting}
-use Rattle.chain.specs.Tally.{tally}
+use Rattle.chain.specs.Tally.{rows_counted, pages_counted, tally}
 use Rattle.chain.specs.Found as row
-use Rattle.export.specs.Rows.{rows_counted}
 use Rattle.export.specs.Row.{settle_row}
-use Rattle.export.specs.Private.{SizedRow, sized_row, row_at, at_row}
+use Rattle.export.specs.declared.SizedRow.{SizedRow}
+use Rattle.export.specs.Private.{sized_row, row_at, at_row}
 use Rattle.lists.proofs.Choice.{on, never}
 use Rattle.chain.proofs.ChainPlaces.{Placed}
-use Rattle.export.proofs.RowsAnswer.{pages_counted}
 
 module _ (size k : ℕ) where
   pub row_found : (rows_of : ℕ → Rows) (places_of : ℕ → Places) (w : Walk Rows) {progress : Progress ℕ} → given progress ≡ tally w

@@ -11,15 +11,10 @@ use Rattle.refusal.specs.Fault.{fault}
 use Rattle.refusal.specs.Answer.{given, refused}
 use Rattle.page.specs.Found.{Rows}
 use Rattle.chain.specs.Walk.{Progress, Walk, full, waiting}
-use Rattle.chain.specs.Tally.{tally}
-use Rattle.export.specs.Rows.{rows_outcome, rows_counted, settle_rows}
+use Rattle.chain.specs.Tally.{rows_counted, pages_counted, tally}
+use Rattle.export.specs.Rows.{rows_outcome, settle_rows}
 use Rattle.lists.proofs.Choice.{never}
 use Rattle.chain.proofs.ChainPlaces.{Placed}
-
--- the number of pages walked
-abbrev pub pages_counted : Progress ℕ → ℕ
-pages_counted (full rows pages) = pages
-pages_counted (waiting page rows pages) = pages
 
 module _ (size : ℕ) (list : Places) {progress : Progress ℕ} where
   pub rows_short : (w : Walk Rows) → given progress ≡ tally w → length list < rows_counted progress

@@ -28,20 +28,21 @@ use Rattle.directory.specs.Header.{len_page, header_holds}
 use Rattle.directory.specs.Directory.{file_directory, no_directory, read_header}
 use Rattle.directory.specs.Chain.{chain_in, table_chain}
 use Rattle.chain.specs.Walk.{Progress, waiting}
-use Rattle.chain.specs.Tally.{tally}
+use Rattle.chain.specs.Tally.{rows_counted, pages_counted, tally}
 use Rattle.chain.specs.Along.{rows_along}
 use Rattle.page.specs.Found.{Rows, no_row}
 use Rattle.chain.specs.Chain.{chain_rows, chain_places}
 use Rattle.table_walk.specs.Walk.{page_size, table_walk, walk_directory}
-use Rattle.export.specs.Rows.{rows_outcome, rows_counted, settle_rows}
+use Rattle.export.specs.Rows.{rows_outcome, settle_rows}
 use Rattle.export.specs.Row.{settle_row}
 use Rattle.chain.specs.Found.{Found}
-use Rattle.export.specs.Private.{SizedRow, row_at, at_row}
+use Rattle.export.specs.declared.SizedRow.{SizedRow}
+use Rattle.export.specs.Private.{row_at, at_row}
 use Rattle.lists.proofs.Choice.{on, never, both_true}
 use Rattle.intake.proofs.RulesPassed.{sound_accepted}
 use Rattle.directory.proofs.ChainAnswer.{FileChain, chain_given}
 use Rattle.chain.proofs.ChainPlaces.{AllowedFile, Placed, chain_placed}
-use Rattle.export.proofs.RowsAnswer.{pages_counted, rows_long}
+use Rattle.export.proofs.RowsAnswer.{rows_long}
 use Rattle.export.proofs.RowAnswer.{row_found}
 
 allowed_short : (len : ℕ) → allowed_length len ≡ true → len ≤ longest

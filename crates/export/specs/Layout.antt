@@ -1,9 +1,10 @@
 -- What block 0 tells ahead of any walk: page length and number of pages of a file, and first and last page of a table.
 -- Rules 3.15 and 3.16. Rests on the header and on `table_chain` of crate `directory`.
-use Rattle.std.specs.Prelude.{cond, not, ℕ, ◌/◌}
+use Rattle.std.specs.Prelude.{Result, cond, not, ℕ, ◌/◌}
 use Rattle.lists.specs.Alias.{Bytes}
-use Rattle.refusal.specs.Fault.{fault, fault_of}
-use Rattle.refusal.specs.Answer.{Answer, given, refused, refuse_if, and_then}
+use Rattle.refusal.specs.Fault.{fault}
+use Rattle.refusal.specs.declared.Refusal.{Refusal}
+use Rattle.refusal.specs.Answer.{Answer, given, refuse_if, and_then, answer_as}
 use Rattle.table.specs.declared.Table.{Table}
 use Rattle.bitmap.specs.Bit.{bit}
 use Rattle.intake.specs.Memory.{Memory, block_at}
@@ -14,9 +15,8 @@ use Rattle.directory.specs.Chain.{table_chain}
 use Rattle.chain.specs.Found as found
 use Rattle.table_walk.specs.Asked.{asked_table}
 use Rattle.export.specs.declared.FileLayout.{FileLayout}
-use Rattle.export.specs.declared.LayoutReply as layout_reply
+use Rattle.chain.specs.declared.Reply.{Reply}
 use Rattle.export.specs.declared.TableBounds.{TableBounds}
-use Rattle.export.specs.declared.BoundsReply as bounds_reply
 
 -- Rules 3.3 and 3.10: page length and P of a file of len bytes with this block 0
 abbrev pub layout_in : (len : ℕ) (block : Bytes) → Answer FileLayout
@@ -43,13 +43,9 @@ ask_layout len m = check_call len m (once_held m (layout_in len))
 unfoldable pub ask_bounds : (len : ℕ) (m : Memory) (number : ℕ) → Answer (found.Found TableBounds)
 ask_bounds len m number = and_then (asked_table len m number) (λ table. once_held m (λ block. bounds_in len block table))
 
--- the answer for each case of the code's enums
-abbrev pub layout_reply_of : layout_reply.LayoutReply → Answer (found.Found FileLayout)
-layout_reply_of (layout_reply.TheVariants.Found l) = given (found.found l)
-layout_reply_of layout_reply.TheVariants.Waiting = given (found.waiting 0 0 0)
-layout_reply_of (layout_reply.TheVariants.Refused refusal) = refused (fault_of refusal)
+-- what a result of the code stands for
+abbrev pub layout_reply_of : Result (Reply FileLayout) Refusal → Answer (found.Found FileLayout)
+layout_reply_of = answer_as (found.reply_of (λ (layout : FileLayout). layout))
 
-abbrev pub bounds_reply_of : bounds_reply.BoundsReply → Answer (found.Found TableBounds)
-bounds_reply_of (bounds_reply.TheVariants.Found b) = given (found.found b)
-bounds_reply_of bounds_reply.TheVariants.Waiting = given (found.waiting 0 0 0)
-bounds_reply_of (bounds_reply.TheVariants.Refused refusal) = refused (fault_of refusal)
+abbrev pub bounds_reply_of : Result (Reply TableBounds) Refusal → Answer (found.Found TableBounds)
+bounds_reply_of = answer_as (found.reply_of (λ (bounds : TableBounds). bounds))

@@ -1,13 +1,13 @@
 -- The question for record k of a table: rules 2.28, 5.21 and 5.34.
-use Rattle.std.specs.Prelude.{ℕ}
-use Rattle.refusal.specs.Fault.{fault_of}
-use Rattle.refusal.specs.Answer.{Answer, given, refused, and_then}
+use Rattle.std.specs.Prelude.{Result, ℕ}
+use Rattle.refusal.specs.declared.Refusal.{Refusal}
+use Rattle.refusal.specs.Answer.{Answer, given, and_then, answer_as}
 use Rattle.table.specs.declared.Table.{Table}
 use Rattle.row.specs.Record.{RowRecord, read_record, record_of}
 use Rattle.page.specs.declared.Row.{Row}
 use Rattle.intake.specs.Memory.{Memory}
-use Rattle.export.specs.declared.RecordReply.{RecordReply}
-use Rattle.export.specs.declared.RecordReply.TheVariants.{Found, Waiting, Refused}
+use Rattle.chain.specs.declared.Reply.{Reply}
+use Rattle.export.specs.declared.RecordOn as code
 use Rattle.table_walk.specs.Asked.{asked_table}
 use Rattle.table_walk.specs.Walk.{page_size, table_walk}
 use Rattle.chain.specs.Found as found
@@ -32,8 +32,10 @@ table_record len m k table = settle_row (record_at m table) k (table_walk len m 
 unfoldable pub ask_record : (len : ℕ) (m : Memory) (number k : ℕ) → Answer (found.Found RecordOn)
 ask_record len m number k = and_then (asked_table len m number) (table_record len m k)
 
--- the answer for each case of the code's enum
-abbrev pub record_reply_of : RecordReply → Answer (found.Found RecordOn)
-record_reply_of (Found r) = given (found.found (record_on r.page r.entry (record_of r.«record»)))
-record_reply_of (Waiting page rows pages) = given (found.waiting page rows pages)
-record_reply_of (Refused refusal) = refused (fault_of refusal)
+-- the record that the code's struct stands for
+abbrev pub record_on_of : code.RecordOn → RecordOn
+record_on_of r = record_on r.page r.entry (record_of r.«record»)
+
+-- what a result of the code stands for
+abbrev pub record_reply_of : Result (Reply code.RecordOn) Refusal → Answer (found.Found RecordOn)
+record_reply_of = answer_as (found.reply_of record_on_of)

@@ -1,14 +1,15 @@
 -- The question for all rows: the answer, and the list afterwards. Rules 2.22, 2.28, 4.10 and 5.20.
-use Rattle.std.specs.Prelude.{[], ℕ, length, ltb}
+use Rattle.std.specs.Prelude.{Result, [], ℕ, length, ltb}
 use Rattle.lists.specs.Alias.{Places}
 use Rattle.refusal.specs.Fault.{fault}
+use Rattle.refusal.specs.declared.Refusal.{Refusal}
 use Rattle.refusal.specs.Answer.{given, refused, refuse_if, and_then}
 use Rattle.lists.specs.Write.{written}
 use Rattle.page.specs.Found.{Rows, places}
 use Rattle.intake.specs.Memory.{Memory}
 use Rattle.chain.specs.declared.Walked.{Walked}
-use Rattle.chain.specs.Walk.{Progress, Walk, full, waiting}
-use Rattle.chain.specs.Tally.{tally, walked_of}
+use Rattle.chain.specs.Walk.{Walk, full, waiting}
+use Rattle.chain.specs.Tally.{rows_counted, tally, walked_of}
 use Rattle.table_walk.specs.Asked.{asked_table}
 use Rattle.table_walk.specs.Walk.{page_size, table_walk}
 
@@ -18,11 +19,6 @@ pub record RowsOutcome : Type 0 where
 
 abbrev pub rows_outcome : Walk ℕ → Places → RowsOutcome
 rows_outcome answer list = record { answer = answer; list = list }
-
--- the number of rows found
-abbrev pub rows_counted : Progress ℕ → ℕ
-rows_counted (full rows pages) = rows
-rows_counted (waiting page rows pages) = rows
 
 -- the number of rows written to the list
 abbrev pub rows_written : Walk ℕ → ℕ
@@ -53,6 +49,6 @@ settle_rows size list walk = rows_outcome (rows_answer list walk) (list_after si
 unfoldable pub ask_rows : (len : ℕ) (m : Memory) (number : ℕ) (list : Places) → RowsOutcome
 ask_rows len m number list = settle_rows (page_size m) list (and_then (asked_table len m number) (table_walk len m))
 
--- the answer for each case of the code's enum, and the list afterwards
-abbrev pub rows_of : Walked → Places → RowsOutcome
+-- what a result of the code stands for, and the list afterwards
+abbrev pub rows_of : Result Walked Refusal → Places → RowsOutcome
 rows_of r list = rows_outcome (walked_of r) list

@@ -1,9 +1,10 @@
 -- The question for a string slot of record k of a table: rules 2.28, 5.22, 5.25 and 5.26.
-use Rattle.std.specs.Prelude.{ℕ, ◌+◌}
+use Rattle.std.specs.Prelude.{Result, ℕ, ◌+◌}
 use Rattle.lists.specs.Alias.{Bytes}
-use Rattle.refusal.specs.Fault.{fault_of}
-use Rattle.refusal.specs.Answer.{Answer, given, refused, and_then}
+use Rattle.refusal.specs.declared.Refusal.{Refusal}
+use Rattle.refusal.specs.Answer.{Answer, given, and_then, answer_as}
 use Rattle.text.specs.declared.Encoding.{Encoding}
+use Rattle.text.specs.declared.Text.{Text}
 use Rattle.text.specs.Text.{TextAt}
 use Rattle.table.specs.declared.Table.{Table}
 use Rattle.row.specs.Slot.{slot_text}
@@ -11,8 +12,7 @@ use Rattle.page.specs.declared.Row.{Row}
 use Rattle.page.specs.Found.{place_of}
 use Rattle.page.specs.Read.{on_row}
 use Rattle.intake.specs.Memory.{Memory}
-use Rattle.export.specs.declared.TextReply.{TextReply}
-use Rattle.export.specs.declared.TextReply.TheVariants.{Found, Waiting, Refused}
+use Rattle.chain.specs.declared.Reply.{Reply}
 use Rattle.table_walk.specs.Asked.{asked_table, with_slot}
 use Rattle.table_walk.specs.Walk.{page_size, table_walk}
 use Rattle.chain.specs.Found as found
@@ -47,8 +47,10 @@ table_text len m k slot table = with_slot slot table (settle_row (text_at m tabl
 unfoldable pub ask_text : (len : ℕ) (m : Memory) (number k slot : ℕ) → Answer (found.Found TextPlace)
 ask_text len m number k slot = and_then (asked_table len m number) (table_text len m k slot)
 
--- the answer for each case of the code's enum
-abbrev pub text_reply_of : TextReply → Answer (found.Found TextPlace)
-text_reply_of (Found place len encoding) = given (found.found (text_place place len encoding))
-text_reply_of (Waiting page rows pages) = given (found.waiting page rows pages)
-text_reply_of (Refused refusal) = refused (fault_of refusal)
+-- the text that the code's struct stands for, where its place counts from the start of the file
+abbrev pub text_place_of : Text → TextPlace
+text_place_of text = text_place text.place text.len text.encoding
+
+-- what a result of the code stands for
+abbrev pub text_reply_of : Result (Reply Text) Refusal → Answer (found.Found TextPlace)
+text_reply_of = answer_as (found.reply_of text_place_of)

@@ -5,7 +5,7 @@ ghost use Rattle.std.specs.Prelude.{◌≡◌};
 ghost use Rattle.format.specs.Place.{page_bounds, linkable};
 
 // A block of the file, named by its number.
-#[derive(Drop)]
+#[derive(Clone, Copy, Debug, PartialEq, Eq)]
 pub struct Block {
     pub number: u64,
 }
@@ -16,7 +16,7 @@ impl Block {
 }
 
 // Where a page stands in the image: its bytes are those from start up to end.
-#[derive(Drop)]
+#[derive(Clone, Copy, Debug, PartialEq, Eq)]
 pub struct Page {
     pub number: u32,
     pub start: usize,
@@ -39,19 +39,16 @@ impl Page {
     }
 
     // Whether a link may name the page in a file of so many pages.
+    #[tactic(auto, unfolding(crate::specs::Place::linkable))]
     pub fn linkable(page_count: u64, page: u32) -> bool
         ensures { result ≡ linkable page_count page }
     {
-        if 1 <= page {
-            (page as u64) < page_count
-        } else {
-            false
-        }
+        (1..page_count).contains(&u64::from(page))
     }
 }
 
 // A group of up to 16 entries of a page's row index.
-#[derive(Drop)]
+#[derive(Clone, Copy, Debug, PartialEq, Eq)]
 pub struct RowGroup {
     pub number: usize,
 }

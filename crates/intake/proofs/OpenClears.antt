@@ -6,8 +6,8 @@ use mathlib.Core.Path.{◌≡◌, refl, sym}
 use mathlib.Core.Option.{none}
 use mathlib.Core.List.{List, ◌++◌}
 use Prim.Native.Nat.{ℕ, ◌≤◌}
-use lib.ListN.{length, drop, replicate, length-replicate}
-use lib.Seq.{drop_at}
+use lib.ListN.{length, take, drop, replicate, length-replicate}
+use lib.Seq.{drop_at, length-take-le}
 use Rattle.std.specs.Prelude.{Ok}
 use Rattle.lists.proofs.Choice.{never}
 use Rattle.refusal.specs.declared.Fault.{Fault}
@@ -41,10 +41,12 @@ module _ (len : ℕ) (image map : List ℕ) where
     pub words_inside : {words : ℕ} → words ≡ word_count len → words ≤ length map
     words_inside e = rw e (lengths_given len image map sound).0.map_long
 
-    pub open_given : {intake : Intake} {blocks words : ℕ} {after : List ℕ} → intake.len ≡ len → blocks ≡ block_count len → words ≡ word_count len
-        → after ≡ replicate words 0 ++ drop words map → opening_of (Ok (record { intake = intake; blocks = blocks })) after ≡ opening len image map
+    pub open_given : {intake : Intake} {blocks words : ℕ} {part : List ℕ} → intake.len ≡ len → blocks ≡ block_count len → words ≡ word_count len
+        → part ≡ replicate (length (take words map)) 0
+        → opening_of (Ok (record { intake = intake; blocks = blocks })) (part ++ drop words map) ≡ opening len image map
     unfolding cleared
-    open_given i b w f = rw (opens (lengths_given len image map sound).0, f, i, b, w)
+    open_given {intake} {blocks} {words} i b w f =
+        rw (opens (lengths_given len image map sound).0, f, length-take-le words map (words_inside w), i, b, w)
 
 pub past_cleared : (len : ℕ) (map : List ℕ) → drop (word_count len) (cleared len map) ≡ drop (word_count len) map
 unfolding cleared

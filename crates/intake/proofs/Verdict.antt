@@ -1,13 +1,13 @@
 -- The verdict on a delivery (specs/Deliver), case by case, and what it tells. Rule 2.27.
---     block_inside                                 a block of the file lies inside the image
+--     block_inside, word_inside                    a block of the file lies inside the image, and its word inside the map
 --     call_refuses, number_refused, size_refused, bytes_refused, is_same, is_new    the verdict in each case
 --     passed, new_absent                           what is known where it is not a refusal, and where it is New
 --     refused_outcome, counted_outcome             the whole delivery, from what the calls of `deliver` give
 -- Rests on refusals 1 to 4 (proofs/RulesPassed).
-use mathlib.Core.Path.{◌≡◌, ◌∙◌}
+use mathlib.Core.Path.{◌≡◌, sym, ◌∙◌}
 use mathlib.Core.Bool.{true, false}
 use mathlib.Core.List.{List}
-use Prim.Native.Nat.{ℕ, ◌+◌, ◌*◌, ◌<◌, ◌≤◌}
+use Prim.Native.Nat.{ℕ, ◌+◌, ◌*◌, ◌/◌, ◌<◌, ◌≤◌}
 use native.Mathlib.Omega.{arith}
 use lib.ListN.{length}
 use borrow.Author.Tests.{le-leb, lt-leb, eq-eqb, ne_eqb, leb-false, eqb-true, not-false}
@@ -27,6 +27,9 @@ use Rattle.intake.proofs.RulesPassed.{rule_passed, call_passes, call_refused, ca
 
 pub block_inside : (len : ℕ) (m : Memory) (block : ℕ) → Sound len m → block < block_count len → block * block_size + block_size ≤ length m.image
 block_inside len m block e h = omega (arith, (sound_accepted len m e).image_long)
+
+pub word_inside : (len : ℕ) (m : Memory) (block : ℕ) → Sound len m → block < block_count len → block / 64 < length m.map
+word_inside len m block e h = omega (arith, (sound_accepted len m e).map_long)
 
 module _ (len : ℕ) (m : Memory) (block : ℕ) (piece : List ℕ) where
   -- none of refusals 1 to 6 applies
@@ -83,9 +86,9 @@ module _ (len : ℕ) (m : Memory) (block : ℕ) (piece : List ℕ) where
       (λ b. b)
 
   -- the delivery, from what the calls of `deliver` give
-  pub refused_outcome : {f : Fault} → check_call {A = Unit} len m (given tt) ≡ refused f → outcome (refused f) m ≡ delivery len m block piece
+  pub refused_outcome : {f : Fault} → refused f ≡ check_call {A = Unit} len m (given tt) → outcome (refused f) m ≡ delivery len m block piece
   unfolding delivery
-  refused_outcome e = rw (call_refuses e)
+  refused_outcome e = rw (call_refuses (sym e))
 
   pub counted_outcome : {j : Judgement} {a : Answer Taken} → j ≡ judged len m block piece → a ≡ with_count len j.memory.map j.verdict
       → outcome a j.memory ≡ delivery len m block piece

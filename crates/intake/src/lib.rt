@@ -1,17 +1,15 @@
 // Taking in an export by blocks: opening, delivery, packets of blocks, and which blocks are held (rules 1.5, 1.6, 1.10 to 1.16 and 1.19 to 1.24).
 #![tactic(auto)]
 
-ghost use Rattle.std.specs.Prelude.{◌≡◌, ◌+◌, ◌*◌, ◌≤◌, ◌++◌, length, drop, replicate, eqb};
+ghost use Rattle.std.specs.Prelude.{◌≡◌, ◌+◌, ◌*◌, ◌/◌, ◌<◌, ◌≤◌, length, eqb};
 ghost use Rattle.lists.specs.Write.{written};
 ghost use Rattle.format.specs.Size.{block_size};
 ghost use Rattle.refusal.specs.Answer.{given, answer_of};
-ghost use Rattle.bitmap.specs.Bit.{with_bit};
 ghost use Rattle.bitmap.specs.Count.{held_count};
 ghost use Rattle.intake.specs.Length.{allowed_length};
 ghost use Rattle.intake.specs.Check.{check_lengths, check_call};
 ghost use Rattle.intake.specs.Open.{opening_of, opening};
 ghost use Rattle.intake.specs.Memory.{memory};
-ghost use Rattle.intake.specs.Equal.{equal};
 ghost use Rattle.intake.specs.Deliver.{stored, verdict, judged, taken, taken_of, outcome_of, delivery};
 ghost use Rattle.intake.specs.Packet.{paired, check_sizes, after_each, results_of_each, packet_outcome_of, packet};
 ghost use Rattle.intake.specs.Missing.{held, next_missing, missing_of};
@@ -66,20 +64,16 @@ enum Judged {
 }
 
 // Whether a file may have the length.
+#[tactic(auto, using(std::proofs::lemmas::Bool::Decides::nat_tests), unfolding(crate::specs::Length::allowed_length))]
 fn allowed(len: u64) -> bool
     ensures { result ≡ allowed_length len }
 {
     let size = Block::SIZE as u64;
-    if len % size != 0 {
-        return false;
-    }
-    if len < size {
-        return false;
-    }
-    len <= Intake::LONGEST
+    len % size == 0 && (size..=Intake::LONGEST).contains(&len)
 }
 
 // Refusals 1 to 3.
+#[tactic(auto, using(lists::proofs::Choice::tests), unfolding(crate::specs::Check::check_lengths))]
 fn check_lengths(len: u64, image: &[u8], map: &[u64]) -> Result<(), Refusal>
     ensures { answer_of result ≡ check_lengths len image.now map.now (given tt) }
 {
@@ -96,6 +90,7 @@ fn check_lengths(len: u64, image: &[u8], map: &[u64]) -> Result<(), Refusal>
 }
 
 // Refusals 1 to 4, with which every call after the opening begins.
+#[tactic(auto, using(lists::proofs::Choice::tests), unfolding(crate::specs::Check::check_call, crate::specs::Check::check_lengths))]
 pub fn check(intake: Intake, image: &[u8], map: &[u64]) -> Result<(), Refusal>
     ensures { answer_of result ≡ check_call intake.len (memory image.now map.now) (given tt) }
 {
@@ -107,57 +102,16 @@ pub fn check(intake: Intake, image: &[u8], map: &[u64]) -> Result<(), Refusal>
     Ok(())
 }
 
-// Sets the first words of the map to 0.
-fn clear(map: &mut [u64], words: usize)
-    requires { words ≤ length map.old }
-    ensures { map.new ≡ replicate words 0 ++ drop words map.old }
-{
-    let mut i = 0;
-    while i < words {
-        map[i] = 0;
-        i += 1;
-    }
-}
-
 // Opens an intake: clears the map's words in use, and leaves the image and the other words.
 pub fn open(len: u64, image: &[u8], map: &mut [u64]) -> Result<Opened, Refusal>
     ensures { opening_of result map.new ≡ opening len image.now map.old }
 {
     check_lengths(len, image, map)?;
-    clear(map, bitmap::word_count(len) as usize);
+    map[..bitmap::word_count(len) as usize].fill(0);
     Ok(Opened {
         intake: Intake::new(len),
         blocks: bitmap::block_count(len),
     })
-}
-
-// Whether two slices have the same bytes.
-fn same_bytes(a: &[u8], b: &[u8]) -> bool
-    ensures { result ≡ equal a.now b.now }
-{
-    if a.len() != b.len() {
-        return false;
-    }
-    let mut i = 0;
-    while i < a.len() {
-        if a[i] != b[i] {
-            return false;
-        }
-        i += 1;
-    }
-    true
-}
-
-// Copies a slice over another of the same length.
-fn copy(into: &mut [u8], from: &[u8])
-    requires { length into.old ≡ length from.now }
-    ensures { into.new ≡ from.now }
-{
-    let mut i = 0;
-    while i < from.len() {
-        into[i] = from[i];
-        i += 1;
-    }
 }
 
 // The verdict on a delivery past refusals 1 to 4.
@@ -182,32 +136,23 @@ fn judge_block(
     }
     let start = (block as usize) * Block::SIZE;
     let end = start + Block::SIZE;
-    if same_bytes(&image[start..end], piece) {
+    if &image[start..end] == piece {
         Ok(Judged::Same)
     } else {
         Err(Refusal::BlockDiffers)
     }
 }
 
-// Sets a block's bit in the map.
-fn set_bit(map: &mut [u64], block: u64)
-    ensures { map.new ≡ with_bit map.old block }
-{
-    let at = (block / 64) as usize;
-    if at < map.len() {
-        map[at] = map[at] | (1u64 << (block % 64));
-    }
-}
-
 // Stores a block and sets its bit.
 fn store(image: &mut [u8], map: &mut [u64], block: u64, piece: &[u8])
-    requires { (length piece.now ≡ block_size) × (block * block_size + block_size ≤ length image.old) }
+    requires { (length piece.now ≡ block_size) × (block * block_size + block_size ≤ length image.old)
+        × (block / 64 < length map.old) }
     ensures { memory image.new map.new ≡ stored (memory image.old map.old) block piece.now }
 {
     let start = (block as usize) * Block::SIZE;
     let end = start + Block::SIZE;
-    copy(&mut image[start..end], piece);
-    set_bit(map, block);
+    image[start..end].copy_from_slice(piece);
+    map[(block / 64) as usize] |= 1u64 << (block % 64);
 }
 
 // The verdict on a delivery past refusals 1 to 4: a new block is stored, and nothing else changes the image and the map.
@@ -285,13 +230,11 @@ fn take_blocks(
     ensures results_after { results.new ≡ written results.old
         (results_of_each len (memory image.old map.old) (paired blocks.now pieces.now)) }
 {
-    let mut i = 0;
-    while i < blocks.len() {
+    for (i, block) in blocks.iter().enumerate() {
         let start = i * Block::SIZE;
         let end = start + Block::SIZE;
-        let verdict = take_block(len, image, map, blocks[i], &pieces[start..end]);
+        let verdict = take_block(len, image, map, *block, &pieces[start..end]);
         results[i] = result(verdict);
-        i += 1;
     }
 }
 
@@ -299,13 +242,11 @@ fn take_blocks(
 fn sized(blocks: &[u64], pieces: &[u8]) -> bool
     ensures { result ≡ eqb (length pieces.now) (length blocks.now * block_size) }
 {
-    if pieces.len() % Block::SIZE != 0 {
-        return false;
-    }
-    pieces.len() / Block::SIZE == blocks.len()
+    pieces.len() % Block::SIZE == 0 && pieces.len() / Block::SIZE == blocks.len()
 }
 
 // Refusals 6 and 17 of a packet.
+#[tactic(auto, using(lists::proofs::Choice::tests), unfolding(crate::specs::Packet::check_sizes))]
 fn check_sizes(blocks: &[u64], pieces: &[u8], results: &[u32]) -> Result<(), Refusal>
     ensures { answer_of result ≡ check_sizes blocks.now pieces.now results.now (given tt) }
 {
@@ -319,6 +260,7 @@ fn check_sizes(blocks: &[u64], pieces: &[u8], results: &[u32]) -> Result<(), Ref
 }
 
 // Refusals 1 to 4, 6 and 17, with which a packet begins.
+#[tactic(auto, using(lists::proofs::Choice::tests), unfolding(crate::specs::Check::check_call, crate::specs::Check::check_lengths))]
 fn check_packet(
     intake: Intake,
     image: &[u8],
@@ -352,26 +294,21 @@ pub fn deliver_packet(
 }
 
 // Whether the file has a block, and it is held.
+#[tactic(auto, using(lists::proofs::Choice::tests), unfolding(crate::specs::Missing::held))]
 pub fn holds(intake: Intake, map: &[u64], block: u64) -> bool
     ensures { result ≡ held intake.len map.now block }
 {
-    if bitmap::block_count(intake.len) <= block {
-        return false;
-    }
-    bitmap::has_bit(map, block)
+    block < bitmap::block_count(intake.len) && bitmap::has_bit(map, block)
 }
 
 // How many bits from a block's on are known to be ones: the rest of its word where that has no zero, else its own or none.
 fn held_run(map: &[u64], block: u64) -> u64
     ensures { HeldRun map.now block result }
 {
-    let word = (block / 64) as usize;
-    if word < map.len() {
-        if map[word] == 0xffff_ffff_ffff_ffff {
-            return 64 - block % 64;
-        }
+    if bitmap::word_at(map, block / 64) == u64::MAX {
+        return 64 - block % 64;
     }
-    if bitmap::has_bit(map, block) { 1 } else { 0 }
+    u64::from(bitmap::has_bit(map, block))
 }
 
 // The first block from a number on that is not held.

@@ -2,21 +2,12 @@
 #![tactic(auto)]
 
 use intake::{Delivered, Intake};
-use refusal::{Fault, Refusal};
 use std::io;
-
-fn say(rt: &impl Print, word: &str, n: u64) -> io::Result<()> {
-    println!(rt; "{word}{n}")
-}
-
-fn say_refused(rt: &impl Print, refusal: Refusal) -> io::Result<()> {
-    say(rt, "refused ", Fault::from(refusal).number as u64)
-}
 
 fn open(rt: &impl Print, len: u64, image: &[u8], map: &mut [u64]) -> io::Result<()> {
     match intake::open(len, image, map) {
-        Ok(opened) => say(rt, "open ", opened.blocks),
-        Err(refusal) => say_refused(rt, refusal),
+        Ok(opened) => println!(rt; "open {}", opened.blocks),
+        Err(refusal) => println!(rt; "{refusal}"),
     }
 }
 
@@ -29,9 +20,9 @@ fn deliver(
     piece: &[u8],
 ) -> io::Result<()> {
     match intake::deliver(Intake::new(len), image, map, block, piece) {
-        Ok(Delivered::New(count)) => say(rt, "new ", count),
-        Ok(Delivered::Same(count)) => say(rt, "same ", count),
-        Err(refusal) => say_refused(rt, refusal),
+        Ok(Delivered::New(count)) => println!(rt; "new {count}"),
+        Ok(Delivered::Same(count)) => println!(rt; "same {count}"),
+        Err(refusal) => println!(rt; "{refusal}"),
     }
 }
 
@@ -64,7 +55,7 @@ fn put(map: &mut [u64], at: usize, word: u64) {
 
 fn say_word(rt: &impl Print, map: &[u64], at: usize) -> io::Result<()> {
     match map.get(at) {
-        Some(word) => say(rt, "word ", *word),
+        Some(word) => println!(rt; "word {}", *word),
         None => Ok(()),
     }
 }

@@ -1,18 +1,18 @@
 -- Rules 5.29 to 5.31: the row that an element of a list of places names, from the one page that it is said to lie on.
 -- Rests on reading one row of a page (page/OneRow), on the pages of a file (chain/File) and on the rank (specs/Rank).
-use Rattle.std.specs.Prelude.{cond, not, ℕ, ◌%◌, length, get_or, leb}
+use Rattle.std.specs.Prelude.{Result, cond, not, ℕ, ◌%◌, length, get_or, leb}
 use Rattle.lists.specs.Alias.{Bytes, Words, Places}
 use Rattle.format.specs.Place.{linkable}
-use Rattle.refusal.specs.Fault.{fault, fault_of}
-use Rattle.refusal.specs.Answer.{Answer, given, refused, refuse_if, and_then}
+use Rattle.refusal.specs.Fault.{fault}
+use Rattle.refusal.specs.declared.Refusal.{Refusal}
+use Rattle.refusal.specs.Answer.{Answer, given, refuse_if, and_then, answer_as}
 use Rattle.table.specs.declared.Table.{Table}
 use Rattle.page.specs.declared.Row.{Row}
 use Rattle.page.specs.OneRow.{read_row}
-use Rattle.chain.specs.Found.{Found, found, waiting}
+use Rattle.chain.specs.declared.Reply.{Reply}
+use Rattle.chain.specs.Found.{Found, found, waiting, reply_of}
 use Rattle.chain.specs.Held.{page_held}
 use Rattle.chain.specs.File.{page_part}
-use Rattle.listed.specs.declared.Listed.{Listed}
-use Rattle.listed.specs.declared.Listed.TheVariants.{At, Waiting, Refused}
 use Rattle.listed.specs.Rank.{page_of, rank}
 
 -- reading the row of element i from its page
@@ -28,8 +28,6 @@ listed_row size page_count table image map list i =
     (cond (not (page_held size map (page_of size list i))) (given (waiting (page_of size list i) 0 0))  -- 5.29, its blocks
     (and_then (read_element size table image list i) (λ row. given (found row)))))  -- 5.30, 5.31
 
--- the answer for each case of the code's enum
-abbrev pub listed_of : Listed → Answer (Found Row)
-listed_of (At row) = given (found row)
-listed_of (Waiting page) = given (waiting page 0 0)
-listed_of (Refused refusal) = refused (fault_of refusal)
+-- what a result of the code stands for
+abbrev pub listed_of : Result (Reply Row) Refusal → Answer (Found Row)
+listed_of = answer_as (reply_of (λ (row : Row). row))

@@ -3,15 +3,15 @@
 --     any_at, any_none, any_not       one number passes the test; none does
 --     any_last                        a run with one number more at its end
 --     any_agree                       two tests that agree on the run
---     any_range                       the library's `any` over a range
+--     any_range, all_range            the library's `any` and `all` over a range
 --     Looking, look-..                the invariant of a loop that looks for such a number
 use mathlib.Core.Path.{◌≡◌, refl, sym, ◌∙◌}
-use mathlib.Core.Bool.{Bool, true, false, ◌||◌, or-false, or_assoc, false≢true}
+use mathlib.Core.Bool.{Bool, true, false, not, ◌||◌, or-false, or_assoc, false≢true}
 use mathlib.Core.Logic.{⊎_elim}
 use Prim.Native.Nat.{ℕ, zero, suc, ◌+◌, ◌-◌, ◌<◌, ◌≤◌}
 use native.Mathlib.Nat.{eq-or-lt_of_le, sub-zero, add-zero}
 use native.Mathlib.Omega.{arith}
-use Rattle.std.specs.List.{list_any, range_with_len}
+use Rattle.std.specs.List.{list_any, list_all, range_with_len}
 use Rattle.lists.specs.Any.{any_from}
 use Rattle.lists.proofs.Choice.{on, or_left, or_right, left_step}
 
@@ -60,6 +60,11 @@ pub any_range : (test : ℕ → Bool) (k i : ℕ) → list_any test (range_with_
 unfolding any_from
 any_range test zero i = refl
 any_range test (suc k) i = rw (any_range test k (i + 1))
+
+pub all_range : (test : ℕ → Bool) (k i : ℕ) → list_all test (range_with_len i k) ≡ not (any_from (λ (j : ℕ). not (test j)) k i)
+unfolding any_from
+all_range test zero i = refl
+all_range test (suc k) i = on (test i) (λ e. rw (e, all_range test k (i + 1))) (λ e. rw e)
 
 -- the invariant of a loop that looks for a number below n that passes the test: i numbers were looked at, and all is what is left
 pub record Looking (test : ℕ → Bool) (all : Bool) (n i : ℕ) : Type 0 where

@@ -8,15 +8,5 @@ ghost use Rattle.lists.specs.Subslice.{subslice};
 pub fn subslice(s: &[u8], start: usize, end: usize) -> &[u8]
     ensures { result.now ≡ subslice s.now start end }
 {
-    let len = s.len();
-    if end < start {
-        return &s[len..];
-    }
-    if end <= len {
-        return &s[start..end];
-    }
-    if start <= len {
-        return &s[start..];
-    }
-    &s[len..]
+    s.get(start..end.min(s.len())).unwrap_or(&[])
 }

@@ -10,35 +10,10 @@ module _ (s : Bytes) (at : ℕ) where
   pub byte_past : length s ≤ at → byte_at s at ≡ 0
   byte_past h = get_or-eq_default s 0 h
 
-pub le16_past : (s : Bytes) (at : ℕ) → length s ≤ at → le16 s at ≡ 0
-unfolding le16
-le16_past s at h = omega (arith, byte_past s at h, byte_past s (at + 1) (omega arith))
-
--- one byte left: the high byte counts as 0
-pub le16_last : (s : Bytes) (at : ℕ) → length s - at < 2 → le16 s at ≡ byte_at s at + 256 * 0
-unfolding le16
-le16_last s at h = omega (arith, byte_past s (at + 1) (omega arith))
-
-pub le24_past : (s : Bytes) (at : ℕ) → length s ≤ at → le24 s at ≡ 0
-unfolding le24
-le24_past s at h = omega (arith, le16_past s at h, byte_past s (at + 2) (omega arith))
-
-pub le32_past : (s : Bytes) (at : ℕ) → length s ≤ at → le32 s at ≡ 0
-unfolding le32
-le32_past s at h = omega (arith, le16_past s at h, le16_past s (at + 2) (omega arith))
-
 -- the four bytes one by one
 pub le32_bytes : (s : Bytes) (at : ℕ) → le32 s at ≡ byte_at s at + 256 * byte_at s (at + 1) + 65536 * byte_at s (at + 2) + 16777216 * byte_at s (at + 3)
 unfolding le32 le16
 le32_bytes s at = let e : byte_at s (at + 2 + 1) ≡ byte_at s (at + 3) = ap (λ (k : ℕ). byte_at s k) (omega arith) in omega arith
-
-pub be16_past : (s : Bytes) (at : ℕ) → length s ≤ at → be16 s at ≡ 0
-unfolding be16
-be16_past s at h = omega (arith, byte_past s at h, byte_past s (at + 1) (omega arith))
-
-pub be32_past : (s : Bytes) (at : ℕ) → length s ≤ at → be32 s at ≡ 0
-unfolding be32
-be32_past s at h = omega (arith, be16_past s at h, be16_past s (at + 2) (omega arith))
 
 pub be32_bytes : (s : Bytes) (at : ℕ) → be32 s at ≡ 16777216 * byte_at s at + 65536 * byte_at s (at + 1) + 256 * byte_at s (at + 2) + byte_at s (at + 3)
 unfolding be32 be16

@@ -5,31 +5,23 @@ use intake::Intake;
 use refusal::{Fault, Refusal};
 use std::io;
 
-fn say(rt: &impl Print, word: &str, n: u64) -> io::Result<()> {
-    println!(rt; "{word}{n}")
-}
-
 fn say_refused(rt: &impl Print, refusal: Refusal) -> io::Result<()> {
     let fault = Fault::from(refusal);
-    say(rt, "refused ", fault.number as u64)?;
-    say(rt, "carries ", fault.value)?;
-    say(rt, "entry ", fault.entry as u64)
-}
-
-fn say_result(rt: &impl Print, res: u32) -> io::Result<()> {
-    say(rt, "result ", res as u64)
+    println!(rt; "{refusal}")?;
+    println!(rt; "carries {}", fault.value)?;
+    println!(rt; "entry {}", fault.entry)
 }
 
 fn say_results(rt: &impl Print, results: &[u32]) -> io::Result<()> {
     for res in results {
-        say_result(rt, *res)?;
+        println!(rt; "result {res}")?;
     }
     Ok(())
 }
 
 fn open(rt: &impl Print, image: &[u8], map: &mut [u64]) -> io::Result<()> {
     match intake::open(1024, image, map) {
-        Ok(opened) => say(rt, "open ", opened.blocks),
+        Ok(opened) => println!(rt; "open {}", opened.blocks),
         Err(refusal) => say_refused(rt, refusal),
     }
 }
@@ -43,7 +35,7 @@ fn packet(
     results: &mut [u32],
 ) -> io::Result<()> {
     match intake::deliver_packet(Intake::new(1024), image, map, blocks, pieces, results) {
-        Ok(count) => say(rt, "held ", count)?,
+        Ok(count) => println!(rt; "held {count}")?,
         Err(refusal) => say_refused(rt, refusal)?,
     }
     say_results(rt, results)

@@ -1,14 +1,13 @@
 -- Rule 4.15: the tests of a page, and what they leave.
 --     number_rung to good_rung           which test answers, by the tests of the code; by_tests: a case for each
---     index_told, entries_inside         what they tell of the index that they leave
+--     index_told                         what they tell of the index that they leave
 --     counted_rows, no_rows, rows_refused     what reading the page answers then
 --     ranked_row, no-row, row_refused         and what reading one row does
 use mathlib.Core.Path.{◌≡◌, refl, sym, ap, ◌∙◌}
 use mathlib.Core.Bool.{true, false, not, ◌&&◌}
 use mathlib.Core.List.{List, [], map}
 use Rattle.std.specs.Prelude.{Option, Some, None, Result, Ok, Err}
-use Prim.Native.Nat.{ℕ, ◌-◌, ◌≤◌}
-use native.Mathlib.Omega.{arith}
+use Prim.Native.Nat.{ℕ, ◌-◌}
 use lib.ListN.{length, take, get_or, length-map}
 use lib.Dec.{eqb, ltb}
 use borrow.Author.Tests.{ltb-true}
@@ -22,14 +21,12 @@ use Rattle.refusal.specs.Fault.{fault, fault_of}
 use Rattle.refusal.specs.Answer.{Answer, given, refused, refuse_if, and_then, answer_of}
 use Rattle.table.specs.declared.Table.{Table}
 use Rattle.page.specs.declared.Row.{Row}
-use Rattle.page.specs.declared.RowIndex.{RowIndex}
 use Rattle.page.specs.Header.{number_agrees, type_agrees, rowless, entries}
 use Rattle.page.specs.Index.{index_size, row_start, present_from}
 use Rattle.page.specs.Found.{Rows, row_of, no_row}
 use Rattle.page.specs.Read.{index_good, before_index, row_entries, judged, check_rows, page_tests, read_page, row_count}
 use Rattle.page.specs.OneRow.{is_row, read_row}
-use Rattle.page.specs.Private.{row_index, tested_index, rows_from, checked_count, judged_at}
-use Rattle.page.proofs.RowEntries.{index_inside, index-good, index_bad}
+use Rattle.page.specs.Private.{PageIndex, index_of, good_index, tested_index, rows_from, checked_count, judged_at}
 
 module _ (number : ℕ) (table : Table) (page : Bytes) where
   pub number_rung : number_agrees number page ≡ false → refused (fault 12 number) ≡ tested_index number table page
@@ -39,15 +36,20 @@ module _ (number : ℕ) (table : Table) (page : Bytes) where
     pub type_rung : type_agrees table page ≡ false → refused (fault 25 number) ≡ tested_index number table page
     type_rung t = rw (h, t)
 
-    module _ (t : type_agrees table page ≡ true) {index : RowIndex} (e : index ≡ row_index page) where
-      pub rowless_rung : index.rowless ≡ true → given None ≡ tested_index number table page
-      rowless_rung r = let flag : rowless page ≡ true = rw e at r in rw (h, t, flag)
+    module _ (t : type_agrees table page ≡ true) where
+      pub rowless_rung : rowless page ≡ true → given None ≡ tested_index number table page
+      rowless_rung r = rw (h, t, r)
 
-      pub index_rung : index.rowless ≡ false → index.good ≡ false → refused (fault 13 number) ≡ tested_index number table page
-      index_rung r f = let flag : rowless page ≡ false = rw e at r in rw (h, t, flag, index_bad page e r f)
+      module _ (r : rowless page ≡ false) {found : Option PageIndex} (e : found ≡ good_index page) where
+        pub index_rung : found ≡ None → refused (fault 13 number) ≡ tested_index number table page
+        index_rung k =
+            let none : good_index page ≡ None = sym e ∙ k in
+            on (index_good page) (λ g. never (cc (rw g at none))) (λ g. rw (h, t, r, g))
 
-      pub good_rung : index.good ≡ true → given (Some index) ≡ tested_index number table page
-      good_rung f = let good = index-good page e f in rw (e, h, t, good.0, good.1)
+        pub good_rung : {index : PageIndex} → found ≡ Some index → given (Some index) ≡ tested_index number table page
+        good_rung {index} k =
+            let some : good_index page ≡ Some index = sym e ∙ k in
+            on (index_good page) (λ g. rw (h, t, r, g) (cc (rw g at some))) (λ g. never (cc (rw g at some)))
 
   -- a case for each test that answers
   pub by_tests : {B : Type 0} → (number_agrees number page ≡ false → B)
@@ -73,29 +75,22 @@ module _ (number : ℕ) (table : Table) (page : Bytes) where
         by_tests (λ h. never (cc (rw h at e))) (λ h t. never (cc (rw (h, t) at e))) (λ h t r. rw (h, t, r))
         (λ h t r g. never (cc (rw (h, t, r, g) at e))) (λ h t r g. never (cc (rw (h, t, r, g) at e)))
 
-  pub record Rowful (index : RowIndex) : Type 0 where
+  pub record Rowful (index : PageIndex) : Type 0 where
     pub numbered : number_agrees number page ≡ true
     pub typed : type_agrees table page ≡ true
     pub rows : rowless page ≡ false
     pub good : index_good page ≡ true
-    pub index_is : index ≡ row_index page
+    pub index_is : index ≡ index_of page
 
-  tested_good : {index : RowIndex} → given (Some index) ≡ tested_index number table page → Rowful index
+  tested_good : {index : PageIndex} → given (Some index) ≡ tested_index number table page → Rowful index
   tested_good e =
       by_tests (λ h. never (cc (rw h at e))) (λ h t. never (cc (rw (h, t) at e))) (λ h t r. never (cc (rw (h, t, r) at e)))
       (λ h t r g. never (cc (rw (h, t, r, g) at e)))
       (λ h t r g. record { numbered = h; typed = t; rows = r; good = g; index_is = cc (rw (h, t, r, g) at e) })
 
-  module _ {index : RowIndex} (g : Rowful index) where
-    pub entries_inside : index_size index.entries ≤ length page
-    entries_inside = rw g.index_is (index_inside page g.good)
-
-    pub start_inside : index.start ≤ length page
-    start_inside = rw g.index_is (omega arith)
-
   -- by what the code is told
-  module _ {tested : Result (Option RowIndex) Refusal} (e : answer_of tested ≡ tested_index number table page) where
-    pub index_told : {index : RowIndex} → tested ≡ Ok (Some index) → Rowful index
+  module _ {tested : Result (Option PageIndex) Refusal} (e : answer_of tested ≡ tested_index number table page) where
+    pub index_told : {index : PageIndex} → tested ≡ Ok (Some index) → Rowful index
     index_told k = tested_good (sym (ap answer_of k) ∙ e)
 
     pub no_rows : tested ≡ Ok None → given 0 ≡ row_count (read_page number table page)
@@ -118,8 +113,8 @@ module _ (number : ℕ) (table : Table) (page : Bytes) where
   count_then (given u) found = refl
   count_then (refused f) found = refl
 
-  pub counted_rows : {index : RowIndex} → Rowful index
-      → checked_count table (take index.start page) (rows_from number page index.entries 0) ≡ row_count (read_page number table page)
+  pub counted_rows : {index : PageIndex} → Rowful index
+      → checked_count table (take (length index.page - index_size index.entries) index.page) (rows_from number index.page index.entries 0) ≡ row_count (read_page number table page)
   unfolding read_page checked_count before_index row_entries
   counted_rows g =
       let found = rows_from number page (entries page) 0 in
@@ -135,9 +130,9 @@ judged_ranked number table page before start rank chosen =
     (λ h. rw (length-map chosen (row_of number page), h, map_at (row_of number page) 0 no_row chosen rank (ltb-true rank (length chosen) h)))
     (λ h. rw (length-map chosen (row_of number page), h))
 
-pub ranked_row : (number : ℕ) (table : Table) (page : Bytes) (start rank : ℕ) {index : RowIndex} → Rowful number table page index → {found : Nth Row}
-    → found ≡ nth no_row (rows_from number page index.entries 0) rank 0
-    → judged_at table (take index.start page) start found ≡ read_row number table page start rank
+pub ranked_row : (number : ℕ) (table : Table) (page : Bytes) (start rank : ℕ) {index : PageIndex} → Rowful number table page index → {found : Nth Row}
+    → found ≡ nth no_row (rows_from number index.page index.entries 0) rank 0
+    → judged_at table (take (length index.page - index_size index.entries) index.page) start found ≡ read_row number table page start rank
 unfolding read_row before_index is_row row_entries
 ranked_row number table page start rank g s =
     let before = take (length page - index_size (entries page)) page in

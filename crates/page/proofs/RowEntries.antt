@@ -1,28 +1,27 @@
 -- Rules 4.13, 4.17, 5.4, 5.5, 5.33: the rows of a page, as the code finds them and how many they are.
---     rowless_index, judged_index   the fields of the row index, with flag `40` and without
 --     unfit_index, counted_index    whether the index is good, by the tests of the code
 --     good_parts                    an index that is good fits and its count agrees
---     index-good, index_bad         what its field `good` says; good_inside: such an index stands in the page
---     entries_room, entries_kept    the entries whose rows are looked at, which stand in the page
+--     index_inside                  such an index is no longer than the page
+--     entries_kept, entries_none    the entries whose rows are looked at
 --     rows_short                    rows are at most as many as the page's bytes
 --     before_short                  the part for rows is no longer than the page
 --     places_low, places_high       the places that are written, by where the page starts
-use mathlib.Core.Path.{◌≡◌}
-use mathlib.Core.Bool.{Bool, true, false, not, ◌&&◌}
+use mathlib.Core.Path.{◌≡◌, refl, sym, ◌∙◌}
+use mathlib.Core.Bool.{true, false}
 use mathlib.Core.List.{List, []}
 use Prim.Native.Nat.{ℕ, ◌+◌, ◌-◌, ◌%◌, ◌<◌, ◌≤◌}
 use native.Mathlib.Omega.{arith}
 use lib.ListN.{length, length-take}
 use lib.Dec.{eqb}
-use borrow.Author.Tests.{le-leb, lt-leb, leb-true, eqb-true, not-true}
+use borrow.Author.Tests.{le-leb, lt-leb, leb-true, eqb-true}
 use Rattle.lists.specs.Alias.{Bytes}
-use Rattle.lists.proofs.Choice.{on, cond_holds, both_true}
+use Rattle.lists.proofs.Choice.{on, cond_holds, both_true, never}
 use Rattle.format.specs.Size.{heap_start}
-use Rattle.page.specs.declared.RowIndex.{RowIndex}
 use Rattle.page.specs.Header.{rowless, entries, num_rows}
 use Rattle.page.specs.Index.{index_size, present_from}
 use Rattle.page.specs.Read.{index_fits, count_agrees, index_good, before_index, row_entries, entry_places, row_places}
-use Rattle.page.specs.Private.{row_index, entries_read}
+use Rattle.std.specs.Prelude.{Option, Some, None}
+use Rattle.page.specs.Private.{PageIndex, index_of, rows_index}
 use Rattle.page.proofs.EntriesInside.{few_present}
 
 pub good_parts : (page : Bytes) → index_good page ≡ true → (index_fits page ≡ true) × (count_agrees page ≡ true)
@@ -33,20 +32,6 @@ good_parts page e = both_true (index_fits page) (count_agrees page) e
 pub index_inside : (page : Bytes) → index_good page ≡ true → index_size (entries page) ≤ length page
 unfolding index_fits
 index_inside page e = omega (arith, leb-true (heap_start + index_size (entries page)) (length page) (good_parts page e).0)
-
-none_inside : (page : Bytes) → index_size 0 ≤ length page
-unfolding index_size
-none_inside page = omega arith
-
-module _ (page : Bytes) {flag good : Bool} {n size start : ℕ} (a : flag ≡ rowless page) (b : n ≡ entries page) (d : size ≡ index_size n) (e : start ≡ length page - size) where
-  index_read : good ≡ (not flag && index_good page) → record { rowless = flag; entries = n; good = good; start = start } ≡ row_index page
-  index_read g = rw (g, a, e, d, b)
-
-  pub rowless_index : flag ≡ true → good ≡ false → record { rowless = flag; entries = n; good = good; start = start } ≡ row_index page
-  rowless_index f g = index_read (rw (f, g))
-
-  pub judged_index : flag ≡ false → good ≡ index_good page → record { rowless = flag; entries = n; good = good; start = start } ≡ row_index page
-  judged_index f g = index_read (rw (f, g))
 
 -- whether the index is good, by the test of the fit and then by the count
 module _ (page : Bytes) {n size : ℕ} (b : n ≡ entries page) (d : size ≡ index_size n) where
@@ -59,28 +44,22 @@ module _ (page : Bytes) {n size : ℕ} (b : n ≡ entries page) (d : size ≡ in
   unfolding index_good index_fits count_agrees
   counted_index h o k = rw (← b, ← d, le-leb (heap_start + size) (length page) h, o, k)
 
--- an index that is good is that of a page with rows, and the other way round
-module _ (page : Bytes) {index : RowIndex} (e : index ≡ row_index page) where
-  pub index-good : index.good ≡ true → (rowless page ≡ false) × (index_good page ≡ true)
-  index-good f =
-      let both = both_true (not (rowless page)) (index_good page) (rw e at f) in
-      (not-true (rowless page) both.0, both.1)
+-- the rows' entries, by what the code is told of the index
+module _ (page : Bytes) {found : Option PageIndex} (e : found ≡ rows_index page) where
+  told : {index : PageIndex} → rows_index page ≡ Some index → (index ≡ index_of page) × (row_entries page ≡ present_from page (entries page) 0)
+  unfolding row_entries
+  told {index} k =
+      on (rowless page) (λ r. never (cc (rw r at k)))
+      (λ r. on (index_good page) (λ g. (cc (rw (r, g) at k), rw (r, g))) (λ g. never (cc (rw (r, g) at k))))
 
-  pub index_bad : index.rowless ≡ false → index.good ≡ false → index_good page ≡ false
-  index_bad r f = let flag : rowless page ≡ false = rw e at r in let good : (not (rowless page) && index_good page) ≡ false = rw e at f in rw flag at good
+  pub entries_kept : {index : PageIndex} → found ≡ Some index → (index.page ≡ page) × (row_entries page ≡ present_from page index.entries 0)
+  entries_kept {index} k = let t = told (sym e ∙ k) in rw t.0 (refl, t.1)
 
-  pub good_inside : index.good ≡ true → index_size index.entries ≤ length page
-  good_inside f = rw e (index_inside page (index-good f).1)
-
-module _ (page : Bytes) {index : RowIndex} {n : ℕ} (e : index ≡ row_index page) (r : n ≡ entries_read index) where
-  pub entries_room : index_size n ≤ length page
-  entries_room =
-      let Room : ℕ → Type 0 = λ (k : ℕ). index_size k ≤ length page in
-      rw r (cond_holds Room index.good (λ f. good_inside page e f) (λ _. none_inside page))
-
-  pub entries_kept : row_entries page ≡ present_from page n 0
-  unfolding row_entries present_from
-  entries_kept = rw (r, e) (on (rowless page) (λ g. rw g) (λ g. on (index_good page) (λ f. rw (g, f)) (λ f. rw (g, f))))
+  pub entries_none : found ≡ None → row_entries page ≡ []
+  unfolding row_entries
+  entries_none k =
+      let none : rows_index page ≡ None = sym e ∙ k in
+      on (rowless page) (λ r. rw r) (λ r. on (index_good page) (λ g. never (cc (rw (r, g) at none))) (λ g. rw (r, g)))
 
 -- an index has at least a byte for each entry
 index_long : (n : ℕ) → n ≤ index_size n

@@ -1,5 +1,5 @@
 -- Definitions that only the contracts of private functions and the proofs cite.
-use Rattle.std.specs.Prelude.{cond, not, ◌&&◌, map, ℕ, ◌-◌, ◌%◌, ◌^◌, min, length, eqb, Option, Some, None}
+use Rattle.std.specs.Prelude.{cond, not, map, ℕ, ◌%◌, ◌^◌, min, length, eqb, Option, Some, None}
 use Rattle.std.specs.Int.Count.{ones}
 use Rattle.lists.specs.Alias.{Bytes}
 use Rattle.lists.specs.Nth.{Nth, element, past}
@@ -7,34 +7,35 @@ use Rattle.number.specs.Number.{le16}
 use Rattle.refusal.specs.Fault.{fault}
 use Rattle.refusal.specs.Answer.{Answer, given, refused, refuse_if, and_then}
 use Rattle.table.specs.declared.Table.{Table}
-use Rattle.page.specs.declared.RowIndex.{RowIndex}
 use Rattle.page.specs.Header.{rowless, entries}
-use Rattle.page.specs.Index.{index_size, flags_at, present_from}
+use Rattle.page.specs.Index.{flags_at, present_from}
 use Rattle.page.specs.declared.Row.{Row}
 use Rattle.page.specs.Found.{Rows, row_of}
 use Rattle.page.specs.Read.{index_good, judged, check_rows, page_tests}
 
--- Rules 4.13, 4.14, 5.4, 5.33: a page's row index, which is good only where the page may have rows.
-abbrev pub row_index : (page : Bytes) → RowIndex
-row_index page =
-    record {
-      rowless = rowless page;
-      entries = entries page;
-      good = not (rowless page) && index_good page;
-      start = length page - index_size (entries page);
-    }
+-- a page and the number of its row index's entries
+pub record PageIndex : Type 0 where
+  pub page : Bytes
+  pub entries : ℕ
 
--- the entries whose rows are looked at
-abbrev pub entries_read : RowIndex → ℕ
-entries_read index = cond index.good index.entries 0
+abbrev pub index_of : (page : Bytes) → PageIndex
+index_of page = record { page = page; entries = entries page }
+
+-- Rules 4.14, 5.4, 5.33: the row index of a page, if it is good
+abbrev pub good_index : (page : Bytes) → Option PageIndex
+good_index page = cond (index_good page) (Some (index_of page)) None
+
+-- Rule 4.13: the same, and none with flag `40`
+abbrev pub rows_index : (page : Bytes) → Option PageIndex
+rows_index page = cond (rowless page) None (good_index page)
 
 -- Rule 5.33: the ones among the flags of the group whose first entry is i, where so many entries are left
 unfoldable pub group_ones : (page : Bytes) (left i : ℕ) → ℕ
 group_ones page left i = ones (le16 page (flags_at page i) % 2 ^ min left 16)
 
 -- Rule 4.15: the row index of a page, where the page's tests come to it
-abbrev pub tested_index : (number : ℕ) (table : Table) (page : Bytes) → Answer (Option RowIndex)
-tested_index number table page = page_tests number table page (given None) (given (Some (row_index page)))
+abbrev pub tested_index : (number : ℕ) (table : Table) (page : Bytes) → Answer (Option PageIndex)
+tested_index number table page = page_tests number table page (given None) (given (Some (index_of page)))
 
 -- the rows of the present ones among so many entries from i on
 abbrev pub rows_from : (number : ℕ) (page : Bytes) (left i : ℕ) → Rows

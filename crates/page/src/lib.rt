@@ -1,24 +1,25 @@
 // Reading one page: its header, its row index and its rows. A page is its own part of the image.
 #![tactic(auto)]
 
-ghost use Rattle.std.specs.Prelude.{◌≡◌, ◌+◌, ◌-◌, ◌*◌, ◌/◌, ◌%◌, ◌^◌, ◌<◌, ◌≤◌, length, set, drop};
+ghost use Rattle.std.specs.Prelude.{◌≡◌, ◌+◌, ◌-◌, ◌^◌, ◌<◌, ◌≤◌, length, set, take, drop};
 ghost use Rattle.number.specs.Number.{le16};
 ghost use Rattle.refusal.specs.Answer.{answer_of};
-ghost use Rattle.format.specs.Size.{heap_start, group_size};
+ghost use Rattle.format.specs.Size.{heap_start};
 ghost use Rattle.lists.specs.Write.{written};
 ghost use Rattle.lists.specs.Nth.{nth};
 ghost use Rattle.row.specs.Check.{check_row, check_of};
 ghost use Rattle.page.specs.Header.{next_page, number_agrees, type_agrees, rowless, entries, num_rows};
 ghost use Rattle.page.specs.Index.{rest_size, index_size, flags_at, present, row_start, present_from};
 ghost use Rattle.page.specs.Found.{row_of, no_row};
-ghost use Rattle.page.specs.Read.{index_good, before_index, judged, entry_places, row_places, read_page, row_count};
+ghost use Rattle.page.specs.Read.{before_index, judged, entry_places, row_places, read_page, row_count};
 ghost use Rattle.page.specs.Row.{page_row, row_at_of, Near};
 ghost use Rattle.page.specs.OneRow.{read_row};
-ghost use Rattle.page.specs.Private.{row_index, entries_read, group_ones, tested_index, rows_from, checked_count, judged_at};
+ghost use Rattle.page.specs.Private.{PageIndex, good_index, rows_index, group_ones, tested_index, rows_from, checked_count, judged_at};
 
 use format::{Page, RowGroup};
 use refusal::Refusal;
 use row::RowError;
+use std::marker::Model;
 use table::Table;
 
 // A row: its page's number, its entry in the page's row index, and where it starts in the page.
@@ -29,19 +30,23 @@ pub struct Row {
     pub start: u32,
 }
 
-// A page's row index.
-#[derive(Clone, Copy, Debug, PartialEq, Eq)]
-struct RowIndex {
-    // The page has flag 40, and so no rows.
-    rowless: bool,
+// The row index of a page, which it fits: the entries behind the page's rows.
+#[derive(Drop)]
+struct RowIndex<'a> {
+    page: &'a [u8],
     entries: u16,
-    // The page may have rows: it has no flag 40, the index fits, and as many entries are present as the header counts.
-    good: bool,
-    // Where the index begins, 0 if it is longer than the page.
-    start: usize,
+}
+
+impl<'a> Model for RowIndex<'a> {
+    ghost Value = { PageIndex };
+
+    ghost view = { λ r. record { page = r.page.now; entries = r.entries } };
+
+    ghost invariant = { λ r. index_size r.entries ≤ length r.page.now };
 }
 
 // Whether the page names itself.
+#[tactic(auto, unfolding(crate::specs::Header::number_agrees))]
 fn number_agrees(page: &[u8], number: u32) -> bool
     ensures { result ≡ number_agrees number page.now }
 {
@@ -49,6 +54,7 @@ fn number_agrees(page: &[u8], number: u32) -> bool
 }
 
 // Whether it names the table.
+#[tactic(auto, unfolding(crate::specs::Header::type_agrees))]
 fn type_agrees(page: &[u8], table: Table) -> bool
     ensures { result ≡ type_agrees table page.now }
 {
@@ -56,6 +62,7 @@ fn type_agrees(page: &[u8], table: Table) -> bool
 }
 
 // Whether the page has flag 40, and so no rows.
+#[tactic(auto, unfolding(crate::specs::Header::rowless))]
 fn is_rowless(page: &[u8]) -> bool
     ensures { result ≡ rowless page.now }
 {
@@ -63,6 +70,7 @@ fn is_rowless(page: &[u8]) -> bool
 }
 
 // The number of entries of the page's row index: the low 13 bits of the row counts.
+#[tactic(auto, unfolding(crate::specs::Header::entries))]
 fn entry_count(page: &[u8]) -> u16
     ensures { (result ≡ entries page.now) × (result < 2 ^ 13) }
 {
@@ -70,6 +78,7 @@ fn entry_count(page: &[u8]) -> u16
 }
 
 // The number of present rows, as the page counts them: the high 11 bits of the row counts.
+#[tactic(auto, unfolding(crate::specs::Header::num_rows))]
 fn num_rows(page: &[u8]) -> u32
     ensures { result ≡ num_rows page.now }
 {
@@ -77,6 +86,7 @@ fn num_rows(page: &[u8]) -> u32
 }
 
 // Rule 5.3: bytes that a rest of fewer than 16 entries takes: four for pad bytes and flags, two for each offset.
+#[tactic(auto, using(lists::proofs::Choice::tests))]
 fn rest_size(rest: u16) -> usize
     ensures { result ≡ rest_size rest }
 {
@@ -84,106 +94,169 @@ fn rest_size(rest: u16) -> usize
 }
 
 // Rule 5.3: bytes of a row index of n entries: whole groups times their size, and the rest's part.
+#[tactic(auto, using(crate::proofs::EntriesInside::index_bound), unfolding(crate::specs::Index::index_size))]
 fn index_size(n: u16) -> usize
     ensures { result ≡ index_size n }
 {
     RowGroup::SIZE * (n / 16) as usize + rest_size(n % 16)
 }
 
-fn index_start(len: usize, size: usize) -> usize
-    ensures { result ≡ len - size }
-{
-    if len < size { 0 } else { len - size }
-}
-
-// The presence flags of entry i's group.
-fn flags_of(page: &[u8], i: u16) -> u16
-    requires { group_size * (i / 16) + 4 ≤ length page.now }
-    ensures { result ≡ le16 page.now (flags_at page.now i) }
-{
-    let group = (i / 16) as usize;
-    number::u16_at(page, page.len() - RowGroup::SIZE * group - 4)
-}
-
-// Whether entry i of the row index is present.
-fn is_present(page: &[u8], i: u16) -> bool
-    requires { group_size * (i / 16) + 4 ≤ length page.now }
-    ensures { result ≡ present page.now i }
-{
-    (flags_of(page, i) >> (i % 16)) % 2 == 1
-}
-
-// The ones among the flags of the group whose first entry is i, where so many entries are left.
-fn group_ones(page: &[u8], left: u16, i: u16) -> u32
-    requires { group_size * (i / 16) + 4 ≤ length page.now }
-    ensures { result ≡ group_ones page.now left i }
-{
-    let flags = flags_of(page, i);
-    if left < 16 {
-        return u16::count_ones(flags % (1u16 << left));
+impl<'a> RowIndex<'a> {
+    // The row index of a page, if it is good: it fits, and as many entries are present as the page counts.
+    fn read(page: &'a [u8]) -> Option<Self>
+        ensures { result ≡ good_index page.now }
+    {
+        let entries = entry_count(page);
+        let size = index_size(entries);
+        let end = Page::HEAP + size;
+        if page.len() < end {
+            return None;
+        }
+        let index = RowIndex { page, entries };
+        let counted = num_rows(page);
+        let ones = index.present_count();
+        (ones == counted).then_some(index)
     }
-    u16::count_ones(flags)
-}
 
-// The ones among the flags of n entries, summed group by group.
-fn present_count(page: &[u8], n: u16) -> u32
-    requires { (index_size n ≤ length page.now) × (n < 2 ^ 13) }
-    ensures { result ≡ length (present_from page.now n 0) }
-{
-    let mut i: u16 = 0;
-    let mut count: u32 = 0;
-    while i < n {
-        count += group_ones(page, n - i, i);
-        i += 16;
+    // The row index of a page with rows: it has no flag 40, and its index is good. With flag 40 no presence flag is looked at.
+    fn of_rows(page: &'a [u8]) -> Option<Self>
+        ensures { result ≡ rows_index page.now }
+    {
+        if is_rowless(page) {
+            None
+        } else {
+            Self::read(page)
+        }
     }
-    count
-}
 
-// Whether an index of n entries fits the page and has as many present entries as the page counts.
-fn is_good(page: &[u8], n: u16, size: usize) -> bool
-    requires { (n ≡ entries page.now) × (size ≡ index_size n) × (n < 2 ^ 13) }
-    ensures { result ≡ index_good page.now }
-{
-    let end = Page::HEAP + size;
-    if page.len() < end {
-        return false;
+    // The part of the page before its row index, in which its rows lie.
+    fn before(&self) -> &'a [u8]
+        ensures { result.now ≡ take (length self.now.page - index_size self.now.entries) self.now.page }
+    {
+        &self.page[..self.page.len() - index_size(self.entries)]
     }
-    let counted = num_rows(page);
-    let ones = present_count(page, n);
-    ones == counted
-}
 
-// One reading of the row index for all that use it. With flag 40 no presence flag is looked at.
-fn row_index(page: &[u8]) -> RowIndex
-    ensures { (result ≡ row_index page.now) × (result.start ≤ length page.now) }
-{
-    let rowless = is_rowless(page);
-    let entries = entry_count(page);
-    let size = index_size(entries);
-    let start = index_start(page.len(), size);
-    let good = if rowless {
-        false
-    } else {
-        is_good(page, entries, size)
-    };
-    RowIndex {
-        rowless,
-        entries,
-        good,
-        start,
+    // The presence flags of entry i's group.
+    #[tactic(auto, using(crate::proofs::EntriesInside::held_room), unfolding(crate::specs::Index::flags_at))]
+    fn flags_of(&self, i: u16) -> u16
+        requires { i < self.now.entries }
+        ensures { result ≡ le16 self.now.page (flags_at self.now.page i) }
+    {
+        let group = (i / 16) as usize;
+        number::u16_at(self.page, self.page.len() - RowGroup::SIZE * group - 4)
     }
-}
 
-// The entries whose rows are looked at.
-fn entries_read(index: RowIndex) -> u16
-    ensures { result ≡ entries_read index }
-{
-    if index.good { index.entries } else { 0 }
+    // Whether entry i of the row index is present.
+    #[tactic(auto, unfolding(crate::specs::Index::present))]
+    fn is_present(&self, i: u16) -> bool
+        requires { i < self.now.entries }
+        ensures { result ≡ present self.now.page i }
+    {
+        (self.flags_of(i) >> (i % 16)) % 2 == 1
+    }
+
+    // The ones among the flags of the group whose first entry is i.
+    fn group_ones(&self, i: u16) -> u32
+        requires { i < self.now.entries }
+        ensures { result ≡ group_ones self.now.page (self.now.entries - i) i }
+    {
+        let flags = self.flags_of(i);
+        let left = self.entries - i;
+        if left < 16 {
+            return u16::count_ones(flags % (1u16 << left));
+        }
+        u16::count_ones(flags)
+    }
+
+    // The ones among the flags of all entries, summed group by group.
+    fn present_count(&self) -> u32
+        ensures { result ≡ length (present_from self.now.page self.now.entries 0) }
+    {
+        let mut count: u32 = 0;
+        for group in 0..self.entries.div_ceil(16) {
+            count += self.group_ones(16 * group);
+        }
+        count
+    }
+
+    // Where the row of entry i starts in the page.
+    #[tactic(auto, using(crate::proofs::EntriesInside::held_room), unfolding(crate::specs::Index::row_start, crate::specs::Index::offset_at, crate::specs::Index::flags_at))]
+    fn row_start(&self, i: u16) -> usize
+        requires { i < self.now.entries }
+        ensures { (result ≡ row_start self.now.page i) × (result ≤ heap_start + 0xffff) }
+    {
+        let group = (i / 16) as usize;
+        let rest = (i % 16) as usize;
+        let flags = self.page.len() - RowGroup::SIZE * group - 4;
+        Page::HEAP + (number::u16_at(self.page, flags - 2 - 2 * rest) as usize)
+    }
+
+    // The row of entry i on a page of this number.
+    fn row_of(&self, number: u32, i: u16) -> Row
+        requires { i < self.now.entries }
+        ensures { (result ≡ row_of number self.now.page i) × (result.start ≤ heap_start + 0xffff) }
+    {
+        Row {
+            page: number,
+            entry: i,
+            start: self.row_start(i) as u32,
+        }
+    }
+
+    // Checks the present rows and counts them.
+    fn read_rows(&self, number: u32, table: Table) -> Result<usize, Refusal>
+        ensures { answer_of result ≡ checked_count table
+            (take (length self.now.page - index_size self.now.entries) self.now.page)
+            (rows_from number self.now.page self.now.entries 0) }
+    {
+        let before = self.before();
+        let mut found: usize = 0;
+        for i in 0..self.entries {
+            if self.is_present(i) {
+                judge_row(before, table, self.row_of(number, i))?;
+                found += 1;
+            }
+        }
+        Ok(found)
+    }
+
+    // Writes the places of the present rows, and counts them.
+    fn fill_rows(&self, start: u32, list: &mut [u32]) -> usize
+        requires { start + heap_start + 0xffff ≤ 0xffff_ffff }
+        ensures { (result ≡ length (present_from self.now.page self.now.entries 0))
+            × (list.new ≡ written list.old (entry_places start self.now.page (present_from self.now.page self.now.entries 0))) }
+    {
+        let mut at: usize = 0;
+        for entry in 0..self.entries {
+            if self.is_present(entry) {
+                put(list, at, start + (self.row_start(entry) as u32));
+                at += 1;
+            }
+        }
+        at
+    }
+
+    // Finds row k among the present rows.
+    fn find_row(&self, number: u32, k: usize) -> Result<Row, usize>
+        ensures { (row_at_of result ≡ nth no_row (rows_from number self.now.page self.now.entries 0) k 0) × Near result }
+    {
+        let mut found: usize = 0;
+        for i in 0..self.entries {
+            if self.is_present(i) {
+                if found == k {
+                    return Ok(self.row_of(number, i));
+                }
+                found += 1;
+            }
+        }
+        Err(found)
+    }
 }
 
 // The tests of a page: its number, its type, flag 40 and its row index. They leave the row index, which is good, or none where
 // the page has flag 40.
-fn test_page(page: &[u8], number: u32, table: Table) -> Result<Option<RowIndex>, Refusal>
+#[tactic(auto, using(crate::proofs::PageTests::number_rung, crate::proofs::PageTests::type_rung, crate::proofs::PageTests::rowless_rung, crate::proofs::PageTests::index_rung, crate::proofs::PageTests::good_rung))]
+fn test_page(page: &[u8], number: u32, table: Table) -> Result<Option<RowIndex<'_>>, Refusal>
     ensures { answer_of result ≡ tested_index number table page.now }
 {
     if !number_agrees(page, number) {
@@ -192,38 +265,11 @@ fn test_page(page: &[u8], number: u32, table: Table) -> Result<Option<RowIndex>,
     if !type_agrees(page, table) {
         return Err(Refusal::PageType(number));
     }
-    let index = row_index(page);
-    if index.rowless {
+    if is_rowless(page) {
         return Ok(None);
     }
-    if !index.good {
-        return Err(Refusal::RowIndex(number));
-    }
+    let index = RowIndex::read(page).ok_or(Refusal::RowIndex(number))?;
     Ok(Some(index))
-}
-
-// Where the row of entry i starts in the page.
-fn row_start(page: &[u8], i: u16) -> usize
-    requires { group_size * (i / 16) + 6 + 2 * (i % 16) ≤ length page.now }
-    ensures { (result ≡ row_start page.now i) × (result ≤ heap_start + 0xffff) }
-{
-    let group = (i / 16) as usize;
-    let rest = (i % 16) as usize;
-    let flags = page.len() - RowGroup::SIZE * group - 4;
-    Page::HEAP + (number::u16_at(page, flags - 2 - 2 * rest) as usize)
-}
-
-// The row of entry i on a page of this number.
-fn row_of(page: &[u8], number: u32, i: u16) -> Row
-    requires { group_size * (i / 16) + 6 + 2 * (i % 16) ≤ length page.now }
-    ensures { (result ≡ row_of number page.now i) × (result.start ≤ heap_start + 0xffff) }
-{
-    let start = row_start(page, i);
-    Row {
-        page: number,
-        entry: i,
-        start: start as u32,
-    }
 }
 
 // The check of the row at a start, among the bytes before the row index.
@@ -248,33 +294,13 @@ fn judge_row(before: &[u8], table: Table, row: Row) -> Result<Row, Refusal>
     }
 }
 
-// Checks the present rows among n entries and counts them.
-fn read_rows(
-    page: &[u8],
-    before: &[u8],
-    number: u32,
-    table: Table,
-    n: u16,
-) -> Result<usize, Refusal>
-    requires { index_size n ≤ length page.now }
-    ensures { answer_of result ≡ checked_count table before.now (rows_from number page.now n 0) }
-{
-    let mut found: usize = 0;
-    for i in 0..n {
-        if is_present(page, i) {
-            judge_row(before, table, row_of(page, number, i))?;
-            found += 1;
-        }
-    }
-    Ok(found)
-}
-
 // The number of the page's rows, or the refusal. The places of the rows are written by fill.
+#[tactic(auto, using(crate::proofs::PageTests::index_told, crate::proofs::PageTests::counted_rows, crate::proofs::PageTests::no_rows, crate::proofs::PageTests::rows_refused))]
 pub fn read(page: &[u8], number: u32, table: Table) -> Result<usize, Refusal>
     ensures { answer_of result ≡ row_count (read_page number table page.now) }
 {
     match test_page(page, number, table)? {
-        Some(index) => read_rows(page, &page[..index.start], number, table, index.entries),
+        Some(index) => index.read_rows(number, table),
         None => Ok(0),
     }
 }
@@ -287,22 +313,6 @@ fn put(list: &mut [u32], at: usize, place: u32)
     }
 }
 
-// Writes the places of the present rows among n entries, and counts them.
-fn fill_rows(page: &[u8], start: u32, n: u16, list: &mut [u32]) -> usize
-    requires { (index_size n ≤ length page.now) × (start + heap_start + 0xffff ≤ 0xffff_ffff) }
-    ensures { (result ≡ length (present_from page.now n 0))
-        × (list.new ≡ written list.old (entry_places start page.now (present_from page.now n 0))) }
-{
-    let mut at: usize = 0;
-    for entry in 0..n {
-        if is_present(page, entry) {
-            put(list, at, start + (row_start(page, entry) as u32));
-            at += 1;
-        }
-    }
-    at
-}
-
 // Writes the places of the present rows to the front of the list, as many as it takes, for a page that starts at this
 // byte of the image, and counts them. The rows are not checked: read does that.
 pub fn fill(page: &[u8], start: u32, list: &mut [u32]) -> usize
@@ -312,34 +322,25 @@ pub fn fill(page: &[u8], start: u32, list: &mut [u32]) -> usize
     if 0xffff_ffff - (Page::HEAP as u32) - 0xffff < start {
         return 0;
     }
-    fill_rows(page, start, entries_read(row_index(page)), list)
-}
-
-// Finds row k among the present rows of n entries.
-fn find_row(page: &[u8], number: u32, n: u16, k: usize) -> Result<Row, usize>
-    requires { index_size n ≤ length page.now }
-    ensures { (row_at_of result ≡ nth no_row (rows_from number page.now n 0) k 0) × Near result }
-{
-    let mut found: usize = 0;
-    for i in 0..n {
-        if is_present(page, i) {
-            if found == k {
-                return Ok(row_of(page, number, i));
-            }
-            found += 1;
-        }
+    match RowIndex::of_rows(page) {
+        Some(index) => index.fill_rows(start, list),
+        None => 0,
     }
-    Err(found)
 }
 
 // Row k of a page of this number, counted from 0 among its present rows, or how many rows there are.
+#[tactic(auto, using(crate::proofs::RowEntries::entries_kept, crate::proofs::RowEntries::entries_none, lists::proofs::Nth::nth_none))]
 pub fn row_at(page: &[u8], number: u32, k: usize) -> Result<Row, usize>
     ensures { (row_at_of result ≡ page_row number page.now k) × Near result }
 {
-    find_row(page, number, entries_read(row_index(page)), k)
+    match RowIndex::of_rows(page) {
+        Some(index) => index.find_row(number, k),
+        None => Err(0),
+    }
 }
 
 // The check of the row that was found for a rank, where it starts at a place of the page.
+#[tactic(auto, using(lists::proofs::Choice::tests))]
 fn judge_found(
     before: &[u8],
     table: Table,
@@ -372,19 +373,21 @@ pub fn read_row(
 {
     match test_page(page, number, table)? {
         Some(index) => {
-            let found = find_row(page, number, index.entries, rank);
-            judge_found(&page[..index.start], table, start, found)
+            let found = index.find_row(number, rank);
+            judge_found(index.before(), table, start, found)
         }
         None => Err(Refusal::NoRow),
     }
 }
 
 // The part of a page before its row index, in which its rows lie.
+#[tactic(auto, unfolding(crate::specs::Read::before_index))]
 pub fn before_index(page: &[u8]) -> &[u8]
     ensures { result.now ≡ before_index page.now }
 {
-    let index = row_index(page);
-    &page[..index.start]
+    let size = index_size(entry_count(page));
+    let start = page.len().saturating_sub(size);
+    &page[..start]
 }
 
 // The next page of the chain.

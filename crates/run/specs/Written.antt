@@ -4,7 +4,8 @@ use Rattle.std.specs.Prelude.{ℕ, take}
 use Rattle.lists.specs.Alias.{Places}
 use Rattle.refusal.specs.Answer.{given, refused}
 use Rattle.chain.specs.Walk.{Walk}
-use Rattle.export.specs.Rows.{RowsOutcome, rows_counted}
+use Rattle.chain.specs.Tally.{rows_counted}
+use Rattle.export.specs.Rows.{RowsOutcome}
 
 -- the front of the list afterwards, as many places as the answer carries
 abbrev pub written_in : Walk ℕ → Places → Option Places

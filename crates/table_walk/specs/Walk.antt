@@ -1,6 +1,6 @@
 -- The walk for a table of a file of len bytes, from its image and map: rules 3.2 and 3.14.
 -- Rests on `table_chain` of crate `directory` and `chain_walk` of crate `chain`.
-use Rattle.std.specs.Prelude.{cond, [], ℕ}
+use Rattle.std.specs.Prelude.{cond, unwrap_or, [], ℕ}
 use Rattle.refusal.specs.Answer.{given}
 use Rattle.table.specs.declared.Table.{Table}
 use Rattle.bitmap.specs.Bit.{bit}
@@ -23,6 +23,6 @@ table_walk len m table =
     (chain_walk table m.image m.map (table_chain len (block_at m.image 0) table))
     (given (waiting 0 [] 0))
 
--- the directory that the walk goes by: a directory of zeros where block 0 is not held (rule 3.9)
+-- the directory that the walk goes by: a directory of zeros where block 0 is not held or the header is broken (rule 3.9)
 unfoldable pub walk_directory : ℕ → Memory → Directory
-walk_directory len m = cond (bit m.map 0) (read_header len (block_at m.image 0)).directory no_directory
+walk_directory len m = cond (bit m.map 0) (unwrap_or (read_header len (block_at m.image 0)) no_directory) no_directory

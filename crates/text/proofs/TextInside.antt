@@ -16,7 +16,7 @@ use Rattle.refusal.specs.Answer.{Answer, given, refused}
 use Rattle.table.specs.declared.Table.{Table}
 use Rattle.text.specs.Code.{is_code, code_length}
 use Rattle.text.specs.Text.{TextAt, is_short, is_long, head_size, whole_size, is_inside, plain_text, code_text, text_in, text_by_kind, read_text}
-use Rattle.text.proofs.ZeroLoop.{AmongThem, zero_inside}
+use Rattle.text.proofs.FirstZero.{AmongThem, zero_inside}
 
 -- what holds of a string of s at an offset
 abbrev pub Inside : (s : Bytes) (at : ℕ) (found : Answer TextAt) → Type 0

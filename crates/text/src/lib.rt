@@ -30,14 +30,7 @@ pub struct Text {
 fn first_zero(bytes: &[u8]) -> Option<usize>
     ensures { result ≡ first_zero bytes.now 0 }
 {
-    let mut i: usize = 0;
-    while i < bytes.len() {
-        if bytes[i] == 0 {
-            return Some(i);
-        }
-        i += 1;
-    }
-    None
+    bytes.iter().position(|byte| *byte == 0)
 }
 
 // A recording code's text, from start to the first zero byte before end.
@@ -52,92 +45,83 @@ fn code(s: &[u8], start: usize, end: usize) -> Option<Text>
     })
 }
 
-// Whether a string of `whole` bytes has its head and ends inside the part.
-fn is_inside(s: &[u8], at: usize, head: usize, whole: usize) -> bool
-    requires { at < length s.now }
-    ensures { result ≡ is_inside s.now at head whole }
-{
-    let left = s.len() - at;
-    if whole < head {
-        return false;
-    }
-    head <= left && whole <= left
+// A string that begins at an offset of a row's part, which ends where the row index begins.
+#[derive(Clone, Copy)]
+struct StringAt<'a> {
+    s: &'a [u8],
+    at: usize,
+    ghost begins_inside: { at < length s.now },
 }
 
-// Whether a `90` string of `whole` bytes is a recording code.
-fn is_code(table: Table, slot: usize, s: &[u8], at: usize, whole: usize) -> bool
-    requires { at < length s.now }
-    ensures { result ≡ is_code table slot 0x90 whole (byte_at s.now (at + 4)) }
-{
-    if whole < 5 {
-        return false;
+impl StringAt<'_> {
+    // Whether a string of `whole` bytes has its head and ends inside the part.
+    #[tactic(auto, using(lists::proofs::Choice::tests), unfolding(crate::specs::Text::is_inside))]
+    fn is_inside(self, head: usize, whole: usize) -> bool
+        ensures { result ≡ is_inside self.entry.s.now self.entry.at head whole }
+    {
+        let left = self.s.len() - self.at;
+        head <= whole && head <= left && whole <= left
     }
-    table.holds_codes(slot) && number::byte_at(s, at + 4) == 0x03
-}
 
-// A short string of `whole` bytes.
-fn short(s: &[u8], at: usize, whole: usize) -> Option<Text>
-    requires { at < length s.now }
-    ensures { text_of result ≡ if_inside s.now at 1 whole (given (rest_behind at 1 whole Encoding.Ascii)) }
-{
-    if is_inside(s, at, 1, whole) {
+    // Whether a `90` string of `whole` bytes is a recording code.
+    #[tactic(auto, using(lists::proofs::Choice::tests, crate::proofs::TextAgree::short_code), unfolding(crate::specs::Code::is_code))]
+    fn is_code(self, table: Table, slot: usize, whole: usize) -> bool
+        ensures { result ≡ is_code table slot 0x90 whole (byte_at self.entry.s.now (self.entry.at + 4)) }
+    {
+        table.holds_codes(slot) && 5 <= whole && number::byte_at(self.s, self.at + 4) == 0x03
+    }
+
+    // The rest behind the head of a string of `whole` bytes, if it is inside.
+    #[tactic(auto, using(crate::proofs::TextInside::inside_fits))]
+    fn rest_behind(self, head: usize, whole: usize, encoding: Encoding) -> Option<Text>
+        ensures { text_of result ≡ if_inside self.entry.s.now self.entry.at head whole (given (rest_behind self.entry.at head whole encoding)) }
+    {
+        if !self.is_inside(head, whole) {
+            return None;
+        }
         Some(Text {
-            place: at + 1,
-            len: whole - 1,
-            encoding: Encoding::Ascii,
+            place: self.at + head,
+            len: whole - head,
+            encoding,
         })
-    } else {
-        None
     }
-}
 
-// A long string: kind `40` or `90`.
-fn long(table: Table, slot: usize, s: &[u8], at: usize, first: u8) -> Option<Text>
-    requires { (at < length s.now) × (is_long first ≡ true) }
-    ensures { text_of result ≡ text_by_kind table slot s.now at first }
-{
-    let whole = number::u16_at(s, at + 1) as usize;
-    if !is_inside(s, at, 4, whole) {
-        return None;
+    // A long string: kind `40` or `90`.
+    #[tactic(auto, using(crate::proofs::LongText::outside, crate::proofs::LongText::ascii, crate::proofs::LongText::code, crate::proofs::LongText::odd, crate::proofs::LongText::even), unfolding(crate::specs::Code::code_length))]
+    fn long(self, table: Table, slot: usize, first: u8) -> Option<Text>
+        requires { is_long first ≡ true }
+        ensures { text_of result ≡ text_by_kind table slot self.entry.s.now self.entry.at first }
+    {
+        let whole = number::u16_at(self.s, self.at + 1) as usize;
+        if !self.is_inside(4, whole) {
+            return None;
+        }
+        if first == 0x40 {
+            return self.rest_behind(4, whole, Encoding::Ascii);
+        }
+        if self.is_code(table, slot, whole) {
+            return code(self.s, self.at + 5, self.at + whole);
+        }
+        if whole % 2 == 1 {
+            return None;
+        }
+        self.rest_behind(4, whole, Encoding::Utf16)
     }
-    if first == 0x40 {
-        return Some(Text {
-            place: at + 4,
-            len: whole - 4,
-            encoding: Encoding::Ascii,
-        });
-    }
-    if is_code(table, slot, s, at, whole) {
-        return code(s, at + 5, at + whole);
-    }
-    if whole % 2 == 1 {
-        return None;
-    }
-    Some(Text {
-        place: at + 4,
-        len: whole - 4,
-        encoding: Encoding::Utf16,
-    })
 }
 
 // The string at an offset of a row's part, which ends where the row index begins, in this slot of this table; none if it is
 // malformed or outside.
+#[tactic(auto, using(lists::proofs::Choice::tests), unfolding(crate::specs::Text::head_size, crate::specs::Text::whole_size, crate::specs::Text::plain_text, crate::specs::Text::text_in, crate::specs::Text::read_text, crate::specs::Code::is_code))]
 pub fn read(table: Table, slot: usize, s: &[u8], at: usize) -> Option<Text>
     ensures { text_of result ≡ read_text table slot s.now at }
 {
     if s.len() <= at {
         return None;
     }
-    let first = number::byte_at(s, at);
-    match first {
-        0x40 => long(table, slot, s, at, first),
-        0x90 => long(table, slot, s, at, first),
-        _ => {
-            if first % 2 == 1 {
-                short(s, at, (first / 2) as usize)
-            } else {
-                None
-            }
-        }
+    let string = StringAt { s, at };
+    match s[at] {
+        first @ (0x40 | 0x90) => string.long(table, slot, first),
+        first if first % 2 == 1 => string.rest_behind(1, (first / 2) as usize, Encoding::Ascii),
+        _ => None,
     }
 }

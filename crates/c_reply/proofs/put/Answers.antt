@@ -6,9 +6,6 @@ use lib.Seq.{drop-cons}
 use Rattle.lists.proofs.Sets.{sets_past}
 use Rattle.c_reply.proofs.put.Goals as goal
 
-pub loop-i-init : goal.loop-i-init
-loop-i-init c = (refl, refl)
-
 pub returns-then-res-i : goal.returns-then-res-i
 returns-then-res-i c =
     let values = c.args.values.now in

@@ -5,28 +5,28 @@ use Rattle.chain.proofs.FillLoop.{begin, end, short, next}
 use Rattle.chain.proofs.PagePart.{part_next}
 use Rattle.chain.proofs.fill_along.Goals as goal
 
-pub loop-left-init : goal.loop-left-init
-loop-left-init c = begin _ _ _ _ _
+pub loop-init : goal.loop-init
+loop-init c = begin _ _ _ _ _
 
 pub shape_of-list-then-list-at : goal.shape_of-list-then-list-at
 shape_of-list-then-list-at c =
-    let inv = c.loop-left.invariant in
+    let inv = c.loop.invariant in
     search (rules, inv.same)
 
 pub returns-then-list-at : goal.returns-then-list-at
 returns-then-list-at c =
-    let inv = c.loop-left.invariant in
+    let inv = c.loop.invariant in
     let wrote = c.fill_page-found.ensures in
-    short inv _ wrote.1 c.loop-left-test.true wrote.0 refl c.if-list-at.true
+    short inv _ wrote.1 c.loop-test.true wrote.0 refl c.if-list-at.true
 
-pub loop-left-preserved : goal.loop-left-preserved
-loop-left-preserved c =
-    let inv = c.loop-left.invariant in
+pub loop-preserved : goal.loop-preserved
+loop-preserved c =
+    let inv = c.loop.invariant in
     let wrote = c.fill_page-found.ensures in
-    next inv _ wrote.1 c.loop-left-test.true wrote.0 refl c.if-list-at.false (part_next _ _ _ c.part.ensures c.next-page.ensures)
+    next inv _ wrote.1 c.loop-test.true wrote.0 refl c.if-list-at.false (part_next _ _ _ c.part.ensures c.next-page.ensures)
 
 pub shape_of-list : goal.shape_of-list
-shape_of-list c = c.loop-left.invariant.same
+shape_of-list c = c.loop.invariant.same
 
 pub returns : goal.returns
-returns c = end c.loop-left.invariant c.loop-left-test.false
+returns c = end c.loop.invariant c.loop-test.false

@@ -1,31 +1,16 @@
--- `chain::is_held` meets its contract: the loop looks for a block that is missing (proofs/HeldLoop).
-use mathlib.Core.Path.{refl, ap}
-use mathlib.Core.Bool.{not}
-use native.Mathlib.Omega.{arith}
-use Rattle.lists.proofs.Any.{look_begin, look_here, look_next, look_end}
-use Rattle.chain.proofs.HeldLoop.{block_bit, held_none, block_low}
+-- `chain::is_held` meets its contract: the map has each block of the page (proofs/BlocksHeld).
+use mathlib.Core.Path.{refl, ◌∙◌}
+use native.Mathlib.Nat.{sub-zero}
+use borrow.Author.Rules.{rules}
+use Rattle.std.proofs.lemmas.Iterator.{YieldsList-from_range}
+use Rattle.std.proofs.lemmas.Iterator.Search.{all_from_yields_List}
+use Rattle.chain.specs.Held.{blocks_in_page}
+use Rattle.chain.proofs.BlocksHeld.{block_held, all_held}
 use Rattle.chain.proofs.is_held.Goals as goal
 
-pub overflow_mul-first : goal.overflow_mul-first
-overflow_mul-first c = omega (arith, block_low c.args.size c.args.number (omega arith) (omega arith))
-
-pub loop-i-init : goal.loop-i-init
-loop-i-init c = look_begin refl
-
-pub overflow_add-first : goal.overflow_add-first
-overflow_add-first c =
-    let a = c.args in
-    omega (arith, block_low a.size a.number (omega arith) (omega arith))
-
-pub returns-then-not-has_bit : goal.returns-then-not-has_bit
-returns-then-not-has_bit c =
-    let missing = block_bit _ _ _ c.loop-i.i c.has_bit.ensures (ap not c.if-not-has_bit.true) in
-    held_none _ _ _ (look_here c.loop-i.invariant c.loop-i-test.true missing)
-
-pub loop-i-preserved : goal.loop-i-preserved
-loop-i-preserved c =
-    let here = block_bit _ _ _ c.loop-i.i c.has_bit.ensures (ap not c.if-not-has_bit.false) in
-    look_next c.loop-i.invariant c.loop-i-test.true here
-
 pub returns : goal.returns
-returns c = held_none _ _ _ (look_end c.loop-i.invariant c.loop-i-test.false)
+returns c =
+    let a = c.args in
+    let n = blocks_in_page a.size in
+    all_from_yields_List (block_held a.size a.map.now a.number) _ _ _ c.all.ensures.ran (YieldsList-from_range 0 n n refl (sub-zero n)) (λ x b q k. search rules)
+    ∙ all_held a.size a.map.now a.number

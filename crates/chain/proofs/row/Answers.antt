@@ -4,10 +4,10 @@ use Rattle.page.specs.Found.{no_row}
 use Rattle.lists.proofs.Nth.{nth_none}
 use Rattle.chain.proofs.row.Goals as goal
 
-pub returns-in-Found : goal.returns-in-Found
-returns-in-Found c = rw (← c.chain-chain.ensures, c.in-Found.is) c.row_along.ensures
+pub returns-in-Ok : goal.returns-in-Ok
+returns-in-Ok c = rw (← c.chain.ensures, c.in-Ok.is) c.row_along.ensures
 
-pub returns-in-Refused : goal.returns-in-Refused
-returns-in-Refused c =
+pub returns-in-Err : goal.returns-in-Err
+returns-in-Err c =
     let k = c.args.k in
-    rw (← c.chain-chain.ensures, c.in-Refused.is) (sym (nth_none no_row k 0))
+    rw (← c.chain.ensures, c.in-Err.is) (sym (nth_none no_row k 0))

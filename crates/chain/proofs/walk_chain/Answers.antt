@@ -6,13 +6,14 @@ use Prim.Native.Nat.{ℕ, ◌+◌, ◌<◌, ◌≤◌, ◌^◌}
 use native.Mathlib.Omega.{arith}
 use lib.Dec.{eqb, leb}
 use borrow.Author.Tests.{eq-eqb, ne_eqb}
+use Rattle.std.proofs.lemmas.Result.{err_from_is_err_and}
 use Rattle.lists.specs.Alias.{Bytes}
 use Rattle.format.specs.Place.{linkable}
-use Rattle.refusal.specs.Answer.{given}
+use Rattle.refusal.specs.declared.Refusal.{Refusal}
+use Rattle.refusal.specs.Answer.{given, answer_of}
 use Rattle.table.specs.declared.Table.{Table}
-use Rattle.page.specs.declared.PageRead.{PageRead}
-use Rattle.page.specs.declared.PageRead.TheVariants.{Counted}
-use Rattle.page.specs.Read.{read_page, row_count, page_read_of}
+use Rattle.std.specs.Prelude.{Result, Ok}
+use Rattle.page.specs.Read.{read_page, row_count}
 use Rattle.chain.specs.Walk.{Pages}
 use Rattle.chain.specs.File.{page_part}
 use Rattle.chain.proofs.WalkLoop.{Going, OnPage, most, begin, outside, stopped, going_on, rows_room, missing, faulty, at_last, onward}
@@ -28,8 +29,8 @@ turn : {pages : Pages} {first rows n mark holder page : ℕ} {link again held : 
 turn going l t a f h k = record { going = going; inside = sym l ∙ t; held = sym h ∙ k; left = going_on going a f }
 
 -- the page's rows, and that they are few
-count : {page : Bytes} {read : PageRead} {found : ℕ} (size : ℕ) (image : Bytes) (number : ℕ) (table : Table) → size < 2 ^ 32
-    → page ≡ page_part size image number → page_read_of read ≡ row_count (read_page number table page) → read ≡ Counted found
+count : {page : Bytes} {read : Result ℕ Refusal} {found : ℕ} (size : ℕ) (image : Bytes) (number : ℕ) (table : Table) → size < 2 ^ 32
+    → page ≡ page_part size image number → answer_of read ≡ row_count (read_page number table page) → read ≡ Ok found
     → (given found ≡ row_count (read_page number table (page_part size image number))) × (found ≤ 0xffff_ffff)
 count {found = found} size image number table s p r k =
     let e = read_given size image number table p r k in
@@ -46,16 +47,16 @@ returns-then-not-is_held c =
     let inside = sym c.linkable.ensures ∙ c.loop-chain-test.true in
     missing c.loop-chain.invariant inside (sym c.is_held.ensures ∙ c.if-not-is_held.true)
 
-pub returns-in-Refused : goal.returns-in-Refused
-returns-in-Refused c =
+pub returns-in_err-rows : goal.returns-in_err-rows
+returns-in_err-rows c =
+    let passed = err_from_is_err_and c.from_residual.result c.from_residual.ensures.1 in
     let here = turn c.loop-chain.invariant c.linkable.ensures c.loop-chain-test.true c.is_again.ensures c.if-is_again.false c.is_held.ensures c.if-not-is_held.false in
-    faulty here.going here.inside here.held _
-    (read_refused _ _ _ _ c.part-bytes.ensures c.read.ensures c.in-Refused.is)
+    rw (passed.1, passed.2) (faulty here.going here.inside here.held _ (read_refused _ _ _ _ c.part-bytes.ensures c.read.ensures c.in_err-rows.was))
 
 pub overflow_add-rows : goal.overflow_add-rows
 overflow_add-rows c =
     let here = turn c.loop-chain.invariant c.linkable.ensures c.loop-chain-test.true c.is_again.ensures c.if-is_again.false c.is_held.ensures c.if-not-is_held.false in
-    record { fits = rows_room here.going here.left (count c.args.chain.len_page c.args.image.now c.loop-chain.page c.args.table (omega arith) c.part-bytes.ensures c.read.ensures c.in-Counted.is).1 }
+    record { fits = rows_room here.going here.left (count c.args.chain.len_page c.args.image.now c.loop-chain.page c.args.table (omega arith) c.part-bytes.ensures c.read.ensures c.in_ok-rows.was).1 }
 
 pub overflow_add-pages : goal.overflow_add-pages
 overflow_add-pages c = omega (arith, (turn c.loop-chain.invariant c.linkable.ensures c.loop-chain-test.true c.is_again.ensures c.if-is_again.false c.is_held.ensures c.if-not-is_held.false).going.room)
@@ -63,7 +64,7 @@ overflow_add-pages c = omega (arith, (turn c.loop-chain.invariant c.linkable.ens
 pub returns-then-page-chain : goal.returns-then-page-chain
 returns-then-page-chain c =
     let here = turn c.loop-chain.invariant c.linkable.ensures c.loop-chain-test.true c.is_again.ensures c.if-is_again.false c.is_held.ensures c.if-not-is_held.false in
-    at_last here.going here.inside here.held (count c.args.chain.len_page c.args.image.now c.loop-chain.page c.args.table (omega arith) c.part-bytes.ensures c.read.ensures c.in-Counted.is).0 (eq-eqb _ _ c.if-page-chain.true)
+    at_last here.going here.inside here.held (count c.args.chain.len_page c.args.image.now c.loop-chain.page c.args.table (omega arith) c.part-bytes.ensures c.read.ensures c.in_ok-rows.was).0 (eq-eqb _ _ c.if-page-chain.true)
 
 pub loop-chain-smaller : goal.loop-chain-smaller
 loop-chain-smaller c = omega (arith, (turn c.loop-chain.invariant c.linkable.ensures c.loop-chain-test.true c.is_again.ensures c.if-is_again.false c.is_held.ensures c.if-not-is_held.false).going.room)
@@ -71,7 +72,7 @@ loop-chain-smaller c = omega (arith, (turn c.loop-chain.invariant c.linkable.ens
 pub loop-chain-preserved : goal.loop-chain-preserved
 loop-chain-preserved c =
     let here = turn c.loop-chain.invariant c.linkable.ensures c.loop-chain-test.true c.is_again.ensures c.if-is_again.false c.is_held.ensures c.if-not-is_held.false in
-    let found = count c.args.chain.len_page c.args.image.now c.loop-chain.page c.args.table (omega arith) c.part-bytes.ensures c.read.ensures c.in-Counted.is in
+    let found = count c.args.chain.len_page c.args.image.now c.loop-chain.page c.args.table (omega arith) c.part-bytes.ensures c.read.ensures c.in_ok-rows.was in
     let next = part_next _ _ _ c.part-bytes.ensures c.next-page.ensures in
     onward here.going here.inside here.held found.0 (omega arith) here.left found.1 (ne_eqb _ _ c.if-page-chain.false) next
     (elim c.if-pages-eq1.branch [ then-pages-eq1 w ↦ inr w.mark-is | else-pages-eq1 w ↦ inl w.mark-is ])

@@ -1,11 +1,20 @@
 -- `export::bounds` meets its contract: the table asked for chooses the case of `ask_bounds`.
-use Rattle.export.specs.Layout.{ask_bounds}
+use borrow.Author.Rules.{rules}
+use Rattle.std.proofs.lemmas.Result.{err_from_is_err_and}
+use Rattle.intake.specs.Memory.{memory}
+use Rattle.export.specs.Layout.{bounds_in, ask_bounds}
+use Rattle.export.proofs.LayoutStart.{once_told}
 use Rattle.export.proofs.bounds.Goals as goal
 
-pub returns-in-Known : goal.returns-in-Known
+pub returns-in_err-table : goal.returns-in_err-table
 unfolding ask_bounds
-returns-in-Known c = rw (← c.asked-found.ensures, c.in-Known.is) c.bounds_of.ensures
+returns-in_err-table c =
+    let passed = err_from_is_err_and c.from_residual.result c.from_residual.ensures.1 in
+    rw (passed.1, passed.2, ← c.in_err-table.ensures)
 
-pub returns-in-Refused : goal.returns-in-Refused
+pub returns : goal.returns
 unfolding ask_bounds
-returns-in-Refused c = rw (← c.asked-found.ensures, c.in-Refused.is)
+returns c =
+    let a = c.args in
+    rw (← c.in_ok-table.ensures)
+    (once_told (memory a.image.now a.map.now) (λ block. bounds_in a.intake.len block c.in_ok-table.table) _ c.once_held.result c.once_held.ensures (λ x q. search rules))

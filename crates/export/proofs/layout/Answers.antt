@@ -1,19 +1,24 @@
 -- `export::layout` meets its contract: the check's verdict says whether `check_call` goes on to block 0.
 use mathlib.Core.Path.{sym, ◌∙◌}
+use borrow.Author.Rules.{rules}
+use Rattle.std.proofs.lemmas.Result.{err_from_is_err_and}
 use Rattle.intake.specs.Memory.{memory}
 use Rattle.intake.proofs.RulesPassed.{call_refused, call_passes}
-use Rattle.export.specs.Layout.{ask_layout}
+use Rattle.export.specs.Layout.{layout_in, ask_layout}
+use Rattle.export.proofs.LayoutStart.{once_told}
 use Rattle.export.proofs.layout.Goals as goal
 
-pub returns-in-Sound : goal.returns-in-Sound
+pub returns-in_err-check : goal.returns-in_err-check
 unfolding ask_layout
-returns-in-Sound c =
+returns-in_err-check c =
     let a = c.args in
-    c.layout_of.ensures
-    ∙ sym (call_passes a.intake.len (memory a.image.now a.map.now) (sym (rw c.in-Sound.is at c.check-checked.ensures)) _)
+    let passed = err_from_is_err_and c.from_residual.result c.from_residual.ensures.1 in
+    rw (passed.1, passed.2) (sym (call_refused a.intake.len (memory a.image.now a.map.now) (sym c.in_err-check.ensures) _))
 
-pub returns-in-Refused : goal.returns-in-Refused
+pub returns : goal.returns
 unfolding ask_layout
-returns-in-Refused c =
+returns c =
     let a = c.args in
-    sym (call_refused a.intake.len (memory a.image.now a.map.now) (sym (rw c.in-Refused.is at c.check-checked.ensures)) _)
+    let m = memory a.image.now a.map.now in
+    once_told m (layout_in a.intake.len) _ c.once_held.result c.once_held.ensures (λ x q. search rules)
+    ∙ sym (call_passes a.intake.len m (sym c.in_ok-check.ensures) _)

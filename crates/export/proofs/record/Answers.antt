@@ -1,30 +1,48 @@
 -- `export::record` meets its contract: the table asked for chooses the case of `ask_record`, and the answer goes by the row (proofs/RowAnswer).
 use mathlib.Core.Path.{ap, ◌∙◌}
+use borrow.Author.Rules.{rules}
+use Rattle.std.proofs.lemmas.Result.{err_from_is_err_and}
 use Rattle.refusal.specs.Answer.{Answer}
 use Rattle.intake.specs.Memory.{memory}
 use Rattle.chain.specs.Found.{Found, then_found}
 use Rattle.table_walk.specs.Walk.{page_size, table_walk}
-use Rattle.export.specs.Record.{ask_record}
-use Rattle.export.specs.Private.{SizedRow, record_in}
+use Rattle.export.specs.declared.SizedRow.{SizedRow}
+use Rattle.export.specs.Record.{record_on_of, ask_record}
+use Rattle.export.specs.Private.{record_in}
 use Rattle.table_walk.proofs.AskedTable.{asked_sound}
+use Rattle.chain.proofs.ReplyThen.{map_then}
 use Rattle.export.proofs.RowAnswer.{by_row}
 use Rattle.export.proofs.record.Goals as goal
+
+pub returns-in_err-table : goal.returns-in_err-table
+unfolding ask_record
+returns-in_err-table c =
+    let passed = err_from_is_err_and c.from_residual.result c.from_residual.ensures.1 in
+    rw (passed.1, passed.2, ← c.in_err-table.ensures)
 
 pub find_row-requires : goal.find_row-requires
 find_row-requires c =
     let a = c.args in
-    asked_sound a.intake.len (memory a.image.now a.map.now) a.number (rw c.in-Known.is at c.asked-table.ensures)
+    asked_sound a.intake.len (memory a.image.now a.map.now) a.number c.in_ok-table.ensures
 
-pub returns-in-Known : goal.returns-in-Known
+pub returns-in_err-find_row : goal.returns-in_err-find_row
 unfolding ask_record
-returns-in-Known c =
+returns-in_err-find_row c =
     let a = c.args in
     let m = memory a.image.now a.map.now in
-    rw (← c.asked-table.ensures, c.in-Known.is)
-    (c.record_from.ensures
-    ∙ ap (λ (x : Answer (Found SizedRow)). then_found x (record_in c.in-Known.t a.image.now)) c.find_row.ensures
-    ∙ by_row (page_size m) a.k (record_in c.in-Known.t a.image.now) (table_walk a.intake.len m c.in-Known.t))
+    let table = c.in_ok-table.table in
+    let passed = err_from_is_err_and c.from_residual-in_err-find_row.result c.from_residual-in_err-find_row.ensures.1 in
+    rw (passed.1, passed.2, ← c.in_ok-table.ensures)
+    (ap (λ (x : Answer (Found SizedRow)). then_found x (record_in table a.image.now)) c.in_err-find_row.ensures
+    ∙ by_row (page_size m) a.k (record_in table a.image.now) (table_walk a.intake.len m table))
 
-pub returns-in-Refused : goal.returns-in-Refused
+pub returns : goal.returns
 unfolding ask_record
-returns-in-Refused c = rw (← c.asked-table.ensures, c.in-Refused.is)
+returns c =
+    let a = c.args in
+    let m = memory a.image.now a.map.now in
+    let table = c.in_ok-table.table in
+    rw (← c.in_ok-table.ensures)
+    (map_then (λ (at : SizedRow). at) record_on_of (record_in table a.image.now) _ c.in_ok-find_row.field-0 c.map.result c.map.ensures (λ x y q. search rules)
+    ∙ ap (λ (x : Answer (Found SizedRow)). then_found x (record_in table a.image.now)) c.in_ok-find_row.ensures
+    ∙ by_row (page_size m) a.k (record_in table a.image.now) (table_walk a.intake.len m table))

@@ -1,24 +1,43 @@
 -- `export::record_in` meets its contract: the table asked for chooses the case of `ask_record_in`, and the answer goes by the row (proofs/ListedStart).
 use mathlib.Core.Path.{ap, ◌∙◌}
+use borrow.Author.Rules.{rules}
+use Rattle.std.proofs.lemmas.Result.{err_from_is_err_and}
 use Rattle.refusal.specs.Answer.{Answer}
 use Rattle.intake.specs.Memory.{memory}
 use Rattle.chain.specs.Found.{Found, then_found}
 use Rattle.table_walk.specs.Walk.{page_size}
+use Rattle.export.specs.declared.SizedRow.{SizedRow}
 use Rattle.export.specs.FromList.{table_listed, ask_record_in}
-use Rattle.export.specs.Private.{SizedRow, record_in}
+use Rattle.export.specs.Record.{record_on_of}
+use Rattle.export.specs.Private.{record_in}
+use Rattle.chain.proofs.ReplyThen.{map_then}
 use Rattle.export.proofs.ListedStart.{listed-row}
 use Rattle.export.proofs.record_in.Goals as goal
 
-pub returns-in-Known : goal.returns-in-Known
+pub returns-in_err-table : goal.returns-in_err-table
 unfolding ask_record_in
-returns-in-Known c =
+returns-in_err-table c =
+    let passed = err_from_is_err_and c.from_residual.result c.from_residual.ensures.1 in
+    rw (passed.1, passed.2, ← c.in_err-table.ensures)
+
+pub returns-in_err-find_listed : goal.returns-in_err-find_listed
+unfolding ask_record_in
+returns-in_err-find_listed c =
     let a = c.args in
     let m = memory a.image.now a.map.now in
-    rw (← c.asked-table.ensures, c.in-Known.is)
-    (c.record_from.ensures
-    ∙ ap (λ (x : Answer (Found SizedRow)). then_found x (record_in c.in-Known.t a.image.now)) c.find_listed.ensures
-    ∙ listed-row (page_size m) (table_listed a.intake.len m a.list.now a.i c.in-Known.t) (record_in c.in-Known.t a.image.now))
+    let table = c.in_ok-table.table in
+    let passed = err_from_is_err_and c.from_residual-in_err-find_listed.result c.from_residual-in_err-find_listed.ensures.1 in
+    rw (passed.1, passed.2, ← c.in_ok-table.ensures)
+    (ap (λ (x : Answer (Found SizedRow)). then_found x (record_in table a.image.now)) c.in_err-find_listed.ensures
+    ∙ listed-row (page_size m) (table_listed a.intake.len m a.list.now a.i table) (record_in table a.image.now))
 
-pub returns-in-Refused : goal.returns-in-Refused
+pub returns : goal.returns
 unfolding ask_record_in
-returns-in-Refused c = rw (← c.asked-table.ensures, c.in-Refused.is)
+returns c =
+    let a = c.args in
+    let m = memory a.image.now a.map.now in
+    let table = c.in_ok-table.table in
+    rw (← c.in_ok-table.ensures)
+    (map_then (λ (at : SizedRow). at) record_on_of (record_in table a.image.now) _ c.in_ok-find_listed.field-0 c.map.result c.map.ensures (λ x y q. search rules)
+    ∙ ap (λ (x : Answer (Found SizedRow)). then_found x (record_in table a.image.now)) c.in_ok-find_listed.ensures
+    ∙ listed-row (page_size m) (table_listed a.intake.len m a.list.now a.i table) (record_in table a.image.now))

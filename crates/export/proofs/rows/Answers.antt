@@ -1,18 +1,21 @@
 -- `export::rows` meets its contract: the table asked for chooses the case of `ask_rows`.
+use Rattle.std.proofs.lemmas.Result.{err_from_is_err_and}
 use Rattle.intake.specs.Memory.{memory}
 use Rattle.export.specs.Rows.{ask_rows}
 use Rattle.table_walk.proofs.AskedTable.{asked_sound}
 use Rattle.export.proofs.rows.Goals as goal
 
+pub returns-in_err-table : goal.returns-in_err-table
+unfolding ask_rows
+returns-in_err-table c =
+    let passed = err_from_is_err_and c.from_residual.result c.from_residual.ensures.1 in
+    rw (passed.1, passed.2, ← c.in_err-table.ensures)
+
 pub rows_of-requires : goal.rows_of-requires
 rows_of-requires c =
     let a = c.args in
-    asked_sound a.intake.len (memory a.image.now a.map.now) a.number (rw c.in-Known.is at c.asked-found.ensures)
+    asked_sound a.intake.len (memory a.image.now a.map.now) a.number c.in_ok-table.ensures
 
-pub returns-in-Known : goal.returns-in-Known
+pub returns : goal.returns
 unfolding ask_rows
-returns-in-Known c = rw (← c.asked-found.ensures, c.in-Known.is) c.rows_of.ensures
-
-pub returns-in-Refused : goal.returns-in-Refused
-unfolding ask_rows
-returns-in-Refused c = rw (← c.asked-found.ensures, c.in-Refused.is)
+returns c = rw (← c.in_ok-table.ensures) c.rows_of.ensures

@@ -7,25 +7,25 @@ use Rattle.export.proofs.text_at.Goals as goal
 
 pub overflow_add-result : goal.overflow_add-result
 overflow_add-result c =
-    let a = c.args in
-    let begin = start_at a.size a.row.page c.new-page.ensures in
-    omega (arith, start_room a.row.page a.size a.row.start (omega arith) (omega arith) (omega arith))
+    let at = c.args.at in
+    let begin = start_at at.size at.row.page c.new.ensures in
+    omega (arith, start_room at.row.page at.size at.row.start (omega arith) (omega arith) (omega arith))
 
-pub overflow_add-result-in-At : goal.overflow_add-result-in-At
-overflow_add-result-in-At c =
-    let row = c.row_part in
+pub overflow_add-result-in-Some : goal.overflow_add-result-in-Some
+overflow_add-result-in-Some c =
     let a = c.args in
-    let begin = start_at a.size a.row.page c.new-page.ensures in
-    let inside = slot_inside a.table row.result.now a.slot (rw c.in-At.is at c.slot_text-found.ensures) in
-    let short = rw (← row.ensures) at (part_room a.size a.image.now a.row) in
-    let at = c.in-At.at in
-    omega (arith, begin, text_room a.row.page a.size a.row.start at (omega arith) (omega arith) (omega arith) (omega (arith, inside, short)))
+    let at = a.at in
+    let begin = start_at at.size at.row.page c.new.ensures in
+    let inside = slot_inside a.table c.row_part.result.now a.slot (rw c.in-Some.is at c.slot_text.ensures) in
+    let short = rw (← c.row_part.ensures) at (part_room at.size a.image.now at.row) in
+    let place = c.in-Some.text.place in
+    omega (arith, begin, text_room at.row.page at.size at.row.start place (omega arith) (omega arith) (omega arith) (omega (arith, inside, short)))
 
-pub returns-in-At : goal.returns-in-At
-returns-in-At c =
-    let a = c.args in
-    let begin = start_at a.size a.row.page c.new-page.ensures in
-    rw (← c.row_part.ensures, ← c.slot_text-found.ensures, c.in-At.is, begin)
+pub returns-in-Some : goal.returns-in-Some
+returns-in-Some c =
+    let at = c.args.at in
+    let begin = start_at at.size at.row.page c.new.ensures in
+    rw (← c.row_part.ensures, ← c.slot_text.ensures, c.in-Some.is, begin)
 
-pub returns-in-Malformed : goal.returns-in-Malformed
-returns-in-Malformed c = rw (← c.row_part.ensures, ← c.slot_text-found.ensures, c.in-Malformed.is)
+pub returns-in-None : goal.returns-in-None
+returns-in-None c = rw (← c.row_part.ensures, ← c.slot_text.ensures, c.in-None.is)

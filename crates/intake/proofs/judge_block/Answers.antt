@@ -5,6 +5,7 @@ use native.Mathlib.Omega.{arith}
 use Rattle.bitmap.specs.Words.{block_count}
 use Rattle.intake.specs.Memory.{memory}
 use Rattle.intake.proofs.Verdict.{block_inside, number_refused, size_refused, bytes_refused, is_same, is_new}
+use Rattle.intake.proofs.EqualBytes.{equal_is}
 use Rattle.intake.proofs.BlockBytes.{part_equal}
 use Rattle.intake.proofs.judge_block.Goals as goal
 
@@ -17,19 +18,19 @@ returns-then-piece-ne-SIZE c = sym (size_refused _ _ _ _ c.requires (omega arith
 pub returns-then-not-has_bit : goal.returns-then-not-has_bit
 returns-then-not-has_bit c = sym (is_new _ _ _ _ c.requires (omega arith) c.if-piece-ne-SIZE.false (sym c.has_bit.ensures ∙ c.if-not-has_bit.true))
 
-pub slice_bounds-same_bytes-end : goal.slice_bounds-same_bytes-end
-slice_bounds-same_bytes-end c =
+pub slice_bounds-eq-end : goal.slice_bounds-eq-end
+slice_bounds-eq-end c =
     let inside : c.args.block < block_count c.args.len = omega arith in
     omega (arith, block_inside c.args.len (memory c.args.image.now c.args.map.now) c.args.block c.requires inside)
 
-pub returns-then-same_bytes : goal.returns-then-same_bytes
-returns-then-same_bytes c =
+pub returns-then-eq : goal.returns-then-eq
+returns-then-eq c =
     let held = sym c.has_bit.ensures ∙ c.if-not-has_bit.false in
-    let e = part_equal _ c.args.block _ c.same_bytes.ensures c.if-same_bytes.true in
+    let e = part_equal _ c.args.block _ (c.eq.ensures ∙ equal_is _ _) c.if-eq.true in
     sym (is_same _ _ _ _ c.requires (omega arith) c.if-piece-ne-SIZE.false held e)
 
-pub returns-else-same_bytes : goal.returns-else-same_bytes
-returns-else-same_bytes c =
+pub returns-else-eq : goal.returns-else-eq
+returns-else-eq c =
     let held = sym c.has_bit.ensures ∙ c.if-not-has_bit.false in
-    let e = part_equal _ c.args.block _ c.same_bytes.ensures c.if-same_bytes.false in
+    let e = part_equal _ c.args.block _ (c.eq.ensures ∙ equal_is _ _) c.if-eq.false in
     sym (bytes_refused _ _ _ _ c.requires (omega arith) c.if-piece-ne-SIZE.false held e)

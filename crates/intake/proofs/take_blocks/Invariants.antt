@@ -1,12 +1,7 @@
 -- `intake::take_blocks` meets its contract. The invariant: what is left of the packet leaves what all of it does (proofs/PacketFold).
-use Prim.Native.Nat.{◌-◌}
-use lib.ListN.{length}
 use Rattle.intake.specs.Memory.{memory}
 use Rattle.intake.proofs.PacketFold.{Turn}
 use Rattle.intake.proofs.take_blocks.Given as goal
 
 abbrev pub invariant-loop-i : goal.invariant-loop-i
 invariant-loop-i l = Turn l.len (memory l.initial.image l.initial.map) l.blocks l.pieces l.initial.results (memory l.image l.map) l.results l.i
-
-abbrev pub decreases-loop-i : goal.decreases-loop-i
-decreases-loop-i l = length l.blocks - l.i

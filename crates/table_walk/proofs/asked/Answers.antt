@@ -1,19 +1,20 @@
 -- `table_walk::asked` meets its contract: the check's verdict says whether `check_call` goes on to the table.
 use mathlib.Core.Path.{sym, ◌∙◌}
+use Rattle.std.proofs.lemmas.Result.{err_from_is_err_and}
 use Rattle.intake.specs.Memory.{memory}
 use Rattle.table_walk.specs.Asked.{asked_table}
 use Rattle.intake.proofs.RulesPassed.{call_refused, call_passes}
 use Rattle.table_walk.proofs.asked.Goals as goal
 
-pub returns-in-Refused : goal.returns-in-Refused
+pub returns-in_err-check : goal.returns-in_err-check
 unfolding asked_table
-returns-in-Refused c =
+returns-in_err-check c =
     let a = c.args in
-    sym (call_refused a.intake.len (memory a.image.now a.map.now) (sym (rw c.in-Refused.is at c.check-checked.ensures)) _)
+    let passed = err_from_is_err_and c.from_residual.result c.from_residual.ensures.1 in
+    rw (passed.1, passed.2) (sym (call_refused a.intake.len (memory a.image.now a.map.now) (sym c.in_err-check.ensures) _))
 
-pub returns-in-Sound : goal.returns-in-Sound
+pub returns : goal.returns
 unfolding asked_table
-returns-in-Sound c =
+returns c =
     let a = c.args in
-    c.new.ensures
-    ∙ sym (call_passes a.intake.len (memory a.image.now a.map.now) (sym (rw c.in-Sound.is at c.check-checked.ensures)) _)
+    c.try_from.ensures ∙ sym (call_passes a.intake.len (memory a.image.now a.map.now) (sym c.in_ok-check.ensures) _)

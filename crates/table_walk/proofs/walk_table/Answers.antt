@@ -8,18 +8,18 @@ pub returns-then-not-has_bit : goal.returns-then-not-has_bit
 returns-then-not-has_bit c =
     let a = c.args in
     let missing = sym c.has_bit.ensures ∙ c.if-not-has_bit.true in
-    start_missing a.len (memory a.image.now a.map.now) a.table missing c.none-directory.ensures
+    start_missing a.len (memory a.image.now a.map.now) a.table missing c.none.ensures
 
-pub returns-then-header : goal.returns-then-header
-returns-then-header c =
+pub returns-in-Some : goal.returns-in-Some
+returns-in-Some c =
     let a = c.args in
     let held = sym c.has_bit.ensures ∙ c.if-not-has_bit.false in
-    let header = rw c.first_block.ensures at c.read-header.ensures in
-    start_ready a.len (memory a.image.now a.map.now) a.table held header c.if-header.true c.walk-walked.ensures
+    let header = rw c.first_block.ensures at c.read.ensures in
+    start_ready a.len (memory a.image.now a.map.now) a.table held header c.in-Some.is c.walk.ensures
 
-pub returns-else-header : goal.returns-else-header
-returns-else-header c =
+pub returns-in-None : goal.returns-in-None
+returns-in-None c =
     let a = c.args in
     let held = sym c.has_bit.ensures ∙ c.if-not-has_bit.false in
-    let header = rw c.first_block.ensures at c.read-header.ensures in
-    start_broken a.len (memory a.image.now a.map.now) a.table held header c.if-header.false
+    let header = rw c.first_block.ensures at c.read.ensures in
+    start_broken a.len (memory a.image.now a.map.now) a.table held header c.in-None.is c.none-in-None.ensures

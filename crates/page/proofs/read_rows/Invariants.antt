@@ -1,6 +1,0 @@
--- `page::read_rows` meets its contract, by the loop's invariant `Reading` (proofs/ReadLoop).
-use Rattle.page.proofs.ReadLoop.{Reading}
-use Rattle.page.proofs.read_rows.Given as goal
-
-abbrev pub invariant-loop-i : goal.invariant-loop-i
-invariant-loop-i l = Reading l.number l.table l.page l.before l.n l.i l.found
