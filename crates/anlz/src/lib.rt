@@ -1,15 +1,18 @@
 // An ANLZ file: its header, an iterator over its sections in file order, and the first of them with a code.
 #![tactic(auto)]
 
-ghost use Rattle.std.specs.Prelude.{◌≡◌, ◌-◌, ◌≤◌, length, IfOk};
+ghost use Rattle.std.specs.Prelude.{◌≡◌, ◌-◌, ◌≤◌, length, IfOk, Some};
 ghost use Rattle.std.specs.Option.{option_or};
 ghost use Rattle.std.specs.Iterator.{at_most};
-ghost use Rattle.anlz.specs.Fault.{AnlzNumberOf, anlz_answer_as, anlz_answer_of};
+ghost use Rattle.anlz.specs.Fault.{AnlzNumberOf, anlz_refusal_text, anlz_answer_as, anlz_answer_of};
 ghost use Rattle.anlz.specs.Header.{header_holds};
 ghost use Rattle.anlz.specs.Section.{section_holds, tag_of};
 ghost use Rattle.anlz.specs.Sections.{next_section, first_place, place_of, NextSection};
 ghost use Rattle.anlz.specs.First.{first_section};
 ghost use Rattle.anlz.specs.Private.{if_code};
+
+use std::error::Error;
+use std::fmt;
 
 // The code that an ANLZ file starts with.
 const PMAI: u32 = 0x504d_4149;
@@ -48,6 +51,16 @@ impl From<AnlzRefusal> for u32 {
         }
     }
 }
+
+impl fmt::Display for AnlzRefusal {
+    ghost output = { λ refusal. Some (anlz_refusal_text refusal) };
+
+    fn fmt<W: fmt::Write>(&self, f: &mut fmt::Formatter<W>) -> fmt::Result {
+        write!(f, "refused {}", u32::from(*self))
+    }
+}
+
+impl Error for AnlzRefusal {}
 
 // A section: its code, and where it starts and ends in the file.
 #[derive(Clone, Copy, Debug, PartialEq, Eq)]
