@@ -3,7 +3,7 @@
 
 ghost use Rattle.std.specs.Prelude.{◌≡◌, true, ◌≤◌, take};
 ghost use Rattle.directory.specs.Header.{type, allowed_page, allowed_tables, has_type, type_twice, tables_hold, header_holds};
-ghost use Rattle.directory.specs.Directory.{pointer_in, no_pointer, kept, file_directory, no_directory, read_header};
+ghost use Rattle.directory.specs.Directory.{pointer_in, kept, file_directory, no_directory, read_header};
 ghost use Rattle.directory.specs.Chain.{pointer_among, linked_chain, chain_in};
 ghost use Rattle.directory.specs.Private.{TypesIn, with_type};
 ghost use Rattle.refusal.specs.Answer.{answer_of};
@@ -13,7 +13,7 @@ use refusal::Refusal;
 use table::Table;
 
 // A table's pointer, under the published names.
-#[derive(Clone, Copy, Debug, PartialEq, Eq)]
+#[derive(Clone, Copy, Debug, Default, PartialEq, Eq)]
 pub struct Pointer {
     pub table_type: u32,
     pub empty_candidate: u32,
@@ -57,36 +57,17 @@ fn pointer_at(block: &[u8], i: u32) -> Pointer
     }
 }
 
-fn no_pointer() -> Pointer
-    ensures { result ≡ no_pointer }
-{
-    Pointer {
-        table_type: 0,
-        empty_candidate: 0,
-        first_page: 0,
-        last_page: 0,
-    }
-}
-
 fn allowed_page(len: u64, size: u32) -> bool
     ensures { result ≡ allowed_page len size }
 {
-    if size < (Block::SIZE as u32) {
-        return false;
-    }
-    if 32_768 < size {
-        return false;
-    }
-    if size % (Block::SIZE as u32) != 0 {
-        return false;
-    }
-    len % (size as u64) == 0
+    let block = Block::SIZE as u32;
+    block <= size && size <= 32_768 && size % block == 0 && len % (size as u64) == 0
 }
 
 fn allowed_tables(n: u32) -> bool
     ensures { result ≡ allowed_tables n }
 {
-    if 1 <= n { n <= 30 } else { false }
+    1 <= n && n <= 30
 }
 
 // Whether one of the first n pointers has this type.
@@ -133,25 +114,16 @@ fn has_type_twice(block: &[u8], n: u32) -> bool
 fn tables_hold(block: &[u8], n: u32) -> bool
     ensures { result ≡ tables_hold block.now n }
 {
-    if allowed_tables(n) {
-        !has_type_twice(block, n)
-    } else {
-        false
-    }
+    allowed_tables(n) && !has_type_twice(block, n)
 }
 
 // Whether none of the rules for 9 is broken, in a file of len bytes with this block 0.
 pub fn header_holds(block: &[u8], len: u64) -> bool
     ensures { result ≡ header_holds len block.now }
 {
-    if number::u32_at(block, 0x00) != 0 {
-        return false;
-    }
-    if allowed_page(len, number::u32_at(block, 0x04)) {
-        tables_hold(block, number::u32_at(block, 0x08))
-    } else {
-        false
-    }
+    number::u32_at(block, 0x00) == 0
+        && allowed_page(len, number::u32_at(block, 0x04))
+        && tables_hold(block, number::u32_at(block, 0x08))
 }
 
 // The first n pointers, in an array of 30.
@@ -159,8 +131,7 @@ fn keep(block: &[u8], n: u32) -> [Pointer; 30]
     requires { n ≤ 30 }
     ensures { result ≡ kept block.now n }
 {
-    let blank = no_pointer();
-    let mut all = [blank; 30];
+    let mut all = [Pointer::default(); 30];
     for i in 0..n {
         all[i as usize] = pointer_at(block, i);
     }
@@ -216,12 +187,11 @@ impl Directory {
     pub fn none() -> Directory
         ensures { result ≡ no_directory }
     {
-        let blank = no_pointer();
         Directory {
             len_page: 0,
             page_count: 0,
             count: 0,
-            pointers: [blank; 30],
+            pointers: [Pointer::default(); 30],
         }
     }
 

@@ -3,22 +3,24 @@
 #![tactic(auto)]
 
 ghost use Rattle.std.specs.Prelude.{◌≡◌};
+ghost use Rattle.std.specs.Fn.{FnOnceReturnsAt};
 ghost use Rattle.lists.specs.Nth.{nth};
 ghost use Rattle.refusal.specs.Answer.{answer_of, given};
-ghost use Rattle.intake.specs.Memory.{memory};
+ghost use Rattle.intake.specs.Memory.{memory, block_at};
 ghost use Rattle.intake.specs.Private.{Sound};
 ghost use Rattle.directory.specs.Chain.{chain_in};
 ghost use Rattle.page.specs.Found.{no_row};
 ghost use Rattle.chain.specs.Chain.{chain_rows};
 ghost use Rattle.chain.specs.Found.{found, then_found};
+ghost use Rattle.listed.specs.Listed.{listed_row};
 ghost use Rattle.table_walk.specs.Walk.{page_size, table_walk};
 ghost use Rattle.export.specs.Rows.{settle_rows, ask_rows, rows_of};
 ghost use Rattle.export.specs.Row.{settle_row, row_part};
 ghost use Rattle.export.specs.Record.{ask_record, record_on_of, record_reply_of};
 ghost use Rattle.export.specs.Text.{text_on, ask_text, text_reply_of};
 ghost use Rattle.export.specs.FromList.{table_listed, ask_record_in, ask_text_in};
-ghost use Rattle.export.specs.Layout.{layout_in, bounds_in, once_held, ask_layout, ask_bounds, layout_reply_of, bounds_reply_of};
-ghost use Rattle.export.specs.Private.{row_at, at_row, row_reply_of, record_in};
+ghost use Rattle.export.specs.Layout.{layout_in, bounds_in, ask_layout, ask_bounds, layout_reply_of, bounds_reply_of};
+ghost use Rattle.export.specs.Private.{OnceHeld, row_at, at_row, row_reply_of, record_in};
 
 use chain::{Reply, Walked};
 use directory::Directory;
@@ -57,6 +59,48 @@ pub struct FileLayout {
 pub struct TableBounds {
     pub first_page: u32,
     pub last_page: u32,
+}
+
+// What block 0 tells, once it is held.
+fn once_held<T, F: FnOnce(&[u8]) -> Result<T, Refusal>>(
+    image: &[u8],
+    map: &[u64],
+    told: F,
+) -> Result<Reply<T>, Refusal>
+    requires { F.IsAlwaysCallable told }
+    ensures { OnceHeld (memory image.now map.now) (λ answer. FnOnceReturnsAt F.FnOnce told (block_at image.now 0) answer) result }
+{
+    if !bitmap::has_bit(map, 0) {
+        return Ok(Reply::waiting(0));
+    }
+    let answer = told(table_walk::first_block(image))?;
+    Ok(Reply::Found(answer))
+}
+
+// The layout of a file of len bytes, from its block 0.
+fn layout_in(block: &[u8], len: u64) -> Result<FileLayout, Refusal>
+    ensures { answer_of result ≡ layout_in len block.now }
+{
+    if !directory::header_holds(block, len) {
+        return Err(Refusal::FileHeader);
+    }
+    let size = number::u32_at(block, 0x04);
+    Ok(FileLayout {
+        len_page: size,
+        page_count: len / (size as u64),
+    })
+}
+
+// First and last page of a table of a file of len bytes, from its block 0.
+fn bounds_in(block: &[u8], len: u64, table: Table) -> Result<TableBounds, Refusal>
+    ensures { answer_of result ≡ bounds_in len block.now table }
+{
+    let directory = Directory::read(block, len).ok_or(Refusal::FileHeader)?;
+    let chain = directory.chain(table)?;
+    Ok(TableBounds {
+        first_page: chain.first_page,
+        last_page: chain.last_page,
+    })
 }
 
 // The answer to a question for all rows of a table, with the places written.
@@ -142,14 +186,28 @@ fn find_row(
         (table_walk len (memory image.now map.now) table) }
 {
     let walk = table_walk::walk_table(len, image, map, table);
-    let walked = walk.walked?;
-    if k < walked.rows() {
-        return row_at(walk.directory, image, table, walked.pages(), k);
-    }
-    match walked {
+    match walk.walked? {
+        walked if k < walked.rows() => row_at(walk.directory, image, table, walked.pages(), k),
         Walked::Full { .. } => Err(Refusal::NoRow),
         Walked::Waiting { page, rows, pages } => Ok(Reply::Waiting { page, rows, pages }),
     }
+}
+
+// The row that element i of a list names, in a file of this layout. One page is read.
+fn find_element(
+    file: FileLayout,
+    image: &[u8],
+    map: &[u64],
+    table: Table,
+    list: &[u32],
+    i: usize,
+) -> Result<Reply<SizedRow>, Refusal>
+    ensures { row_reply_of result ≡ then_found
+        (listed_row file.len_page file.page_count table image.now map.now list.now i) (row_at file.len_page) }
+{
+    let size = file.len_page;
+    let found = listed::find(size, file.page_count, table, image, map, list, i)?;
+    Ok(found.map(|row| SizedRow { row, size }))
 }
 
 // The row that element i of a list names. Of block 0 the header is read, and of the rest one page.
@@ -165,16 +223,8 @@ fn find_listed(
         (table_listed len (memory image.now map.now) list.now i table)
         (row_at (page_size (memory image.now map.now))) }
 {
-    if !bitmap::has_bit(map, 0) {
-        return Ok(Reply::waiting(0));
-    }
-    let block = table_walk::first_block(image);
-    if !directory::header_holds(block, len) {
-        return Err(Refusal::FileHeader);
-    }
-    let size = number::u32_at(block, 0x04);
-    let found = listed::find(size, len / (size as u64), table, image, map, list, i)?;
-    Ok(found.map(|row| SizedRow { row, size }))
+    let layout = once_held(image, map, |block| layout_in(block, len))?;
+    layout.and_then(|file| find_element(file, image, map, table, list, i))
 }
 
 // The record of a row.
@@ -200,8 +250,7 @@ pub fn record(
     ensures { record_reply_of result ≡ ask_record intake.len (memory image.now map.now) number k }
 {
     let table = table_walk::asked(intake, image, map, number)?;
-    let found = find_row(intake.len, image, map, table, k)?;
-    Ok(found.map(|at| record_on(table, image, at)))
+    Ok(find_row(intake.len, image, map, table, k)?.map(|at| record_on(table, image, at)))
 }
 
 // The record of the row that element i of a list names. Of the table one page is read.
@@ -217,8 +266,7 @@ pub fn record_in(
         ask_record_in intake.len (memory image.now map.now) number list.now i }
 {
     let table = table_walk::asked(intake, image, map, number)?;
-    let found = find_listed(intake.len, image, map, table, list, i)?;
-    Ok(found.map(|at| record_on(table, image, at)))
+    Ok(find_listed(intake.len, image, map, table, list, i)?.map(|at| record_on(table, image, at)))
 }
 
 // The text of a slot of a row.
@@ -250,8 +298,7 @@ pub fn text(
     ensures { text_reply_of result ≡ ask_text intake.len (memory image.now map.now) number k slot }
 {
     let table = table_walk::asked_slot(intake, image, map, number, slot)?;
-    let found = find_row(intake.len, image, map, table, k)?;
-    found.and_then(|at| text_at(table, image, slot, at))
+    find_row(intake.len, image, map, table, k)?.and_then(|at| text_at(table, image, slot, at))
 }
 
 // The text of a string slot of the row that element i of a list names. Of the table one page is read.
@@ -268,26 +315,9 @@ pub fn text_in(
         ask_text_in intake.len (memory image.now map.now) number list.now i slot }
 {
     let table = table_walk::asked_slot(intake, image, map, number, slot)?;
-    let found = find_listed(intake.len, image, map, table, list, i)?;
-    found.and_then(|at| text_at(table, image, slot, at))
-}
-
-// The layout, from block 0.
-fn layout_of(len: u64, image: &[u8], map: &[u64]) -> Result<Reply<FileLayout>, Refusal>
-    ensures { layout_reply_of result ≡ once_held (memory image.now map.now) (layout_in len) }
-{
-    if !bitmap::has_bit(map, 0) {
-        return Ok(Reply::waiting(0));
-    }
-    let block = table_walk::first_block(image);
-    if !directory::header_holds(block, len) {
-        return Err(Refusal::FileHeader);
-    }
-    let size = number::u32_at(block, 0x04);
-    Ok(Reply::Found(FileLayout {
-        len_page: size,
-        page_count: len / (size as u64),
-    }))
+    find_listed(intake.len, image, map, table, list, i)?.and_then(|at| text_at(
+        table, image, slot, at,
+    ))
 }
 
 // Page length and number of pages of the file.
@@ -295,30 +325,7 @@ pub fn layout(intake: Intake, image: &[u8], map: &[u64]) -> Result<Reply<FileLay
     ensures { layout_reply_of result ≡ ask_layout intake.len (memory image.now map.now) }
 {
     intake::check(intake, image, map)?;
-    layout_of(intake.len, image, map)
-}
-
-// First and last page of a table, from block 0.
-fn bounds_of(
-    len: u64,
-    image: &[u8],
-    map: &[u64],
-    table: Table,
-) -> Result<Reply<TableBounds>, Refusal>
-    ensures { bounds_reply_of result ≡
-        once_held (memory image.now map.now) (λ block. bounds_in len block table) }
-{
-    if !bitmap::has_bit(map, 0) {
-        return Ok(Reply::waiting(0));
-    }
-    let directory = Directory::read(table_walk::first_block(image), len).ok_or(
-        Refusal::FileHeader,
-    )?;
-    let chain = directory.chain(table)?;
-    Ok(Reply::Found(TableBounds {
-        first_page: chain.first_page,
-        last_page: chain.last_page,
-    }))
+    once_held(image, map, |block| layout_in(block, intake.len))
 }
 
 // First and last page of a table.
@@ -331,5 +338,5 @@ pub fn bounds(
     ensures { bounds_reply_of result ≡ ask_bounds intake.len (memory image.now map.now) number }
 {
     let table = table_walk::asked(intake, image, map, number)?;
-    bounds_of(intake.len, image, map, table)
+    once_held(image, map, |block| bounds_in(block, intake.len, table))
 }

@@ -90,6 +90,7 @@ fn check_lengths(len: u64, image: &[u8], map: &[u64]) -> Result<(), Refusal>
 }
 
 // Refusals 1 to 4, with which every call after the opening begins.
+#[tactic(auto, using(lists::proofs::Choice::tests), unfolding(crate::specs::Check::check_call, crate::specs::Check::check_lengths))]
 pub fn check(intake: Intake, image: &[u8], map: &[u64]) -> Result<(), Refusal>
     ensures { answer_of result ≡ check_call intake.len (memory image.now map.now) (given tt) }
 {
@@ -259,6 +260,7 @@ fn check_sizes(blocks: &[u64], pieces: &[u8], results: &[u32]) -> Result<(), Ref
 }
 
 // Refusals 1 to 4, 6 and 17, with which a packet begins.
+#[tactic(auto, using(lists::proofs::Choice::tests), unfolding(crate::specs::Check::check_call, crate::specs::Check::check_lengths))]
 fn check_packet(
     intake: Intake,
     image: &[u8],

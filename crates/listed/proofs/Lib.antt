@@ -1,10 +1,10 @@
 -- How a row is found by an element of a list.
 --     SamePage         a place lies on a page by where the page starts and ends
---     RunLoop          the loop that counts the places directly before an element
+--     RunBack          the loop that counts the places directly before an element
 --     ListedRungs      which rung of `listed_row` answers, by the tests of the code
 --     RunsInRows, RowsRanked     the rows that a walk finds have their numbers on their pages as ranks, so an element of their places names them
 pub mod SamePage
-pub mod RunLoop
+pub mod RunBack
 pub mod ListedRungs
 pub mod RunsInRows
 pub mod RowsRanked

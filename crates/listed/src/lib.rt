@@ -28,20 +28,12 @@ fn run_before(list: &[u32], i: usize, first: u32, size: u32) -> usize
     requires { (i ≤ length list.now) × ((0 < size) × (first % size ≡ 0)) }
     ensures { result ≡ min size (run_before size list.now (first / size) i) }
 {
-    let most = size as usize;
-    let mut left = i;
-    let mut count: usize = 0;
-    while 0 < left {
-        if most <= count {
-            return count;
-        }
-        if !lies_on(list[left - 1], first, size) {
-            return count;
-        }
-        left -= 1;
-        count += 1;
-    }
-    count
+    list[..i]
+        .iter()
+        .rev()
+        .take_while(|place| lies_on(**place, first, size))
+        .take(size as usize)
+        .count()
 }
 
 // The row that element i of a list names, in a file of page_count pages of size bytes, or Waiting for its page. Of the image

@@ -1,6 +1,9 @@
 -- `export::bounds` meets its contract: the table asked for chooses the case of `ask_bounds`.
+use borrow.Author.Rules.{rules}
 use Rattle.std.proofs.lemmas.Result.{err_from_is_err_and}
-use Rattle.export.specs.Layout.{ask_bounds}
+use Rattle.intake.specs.Memory.{memory}
+use Rattle.export.specs.Layout.{bounds_in, ask_bounds}
+use Rattle.export.proofs.LayoutStart.{once_told}
 use Rattle.export.proofs.bounds.Goals as goal
 
 pub returns-in_err-table : goal.returns-in_err-table
@@ -11,4 +14,7 @@ returns-in_err-table c =
 
 pub returns : goal.returns
 unfolding ask_bounds
-returns c = rw (← c.in_ok-table.ensures) c.bounds_of.ensures
+returns c =
+    let a = c.args in
+    rw (← c.in_ok-table.ensures)
+    (once_told (memory a.image.now a.map.now) (λ block. bounds_in a.intake.len block c.in_ok-table.table) _ c.once_held.result c.once_held.ensures (λ x q. search rules))

@@ -1,53 +1,33 @@
--- `export::find_listed` meets its contract: block 0's bit and the header choose the case, and then the element answers (proofs/ListedStart).
-use mathlib.Core.Path.{sym, ap, ◌∙◌}
-use native.Mathlib.Omega.{arith}
+-- `export::find_listed` meets its contract: block 0 tells the layout, and then the element answers (proofs/LayoutStart, ListedStart).
+use mathlib.Core.Path.{ap, ◌∙◌}
 use borrow.Author.Rules.{rules}
 use Rattle.std.proofs.lemmas.Result.{err_from_is_err_and}
-use Rattle.lists.specs.Alias.{Bytes}
-use Rattle.page.specs.declared.Row.{Row}
+use Rattle.refusal.specs.Answer.{Answer}
 use Rattle.intake.specs.Memory.{memory}
-use Rattle.directory.specs.Header.{len_page}
-use Rattle.directory.proofs.GoodHeader.{good_header}
-use Rattle.chain.proofs.ReplyThen.{map_then}
+use Rattle.chain.specs.Found.{Found, then_found}
+use Rattle.chain.proofs.ReplyThen.{follow_then}
+use Rattle.export.specs.declared.FileLayout.{FileLayout}
 use Rattle.export.specs.declared.SizedRow.{SizedRow}
-use Rattle.export.specs.Private.{row_at}
-use Rattle.export.proofs.ListedStart.{block_missing, header_broken, element_read}
+use Rattle.export.specs.Layout.{layout_in}
+use Rattle.export.proofs.LayoutStart.{once_told}
+use Rattle.export.proofs.ListedStart.{element_row, listed_start}
 use Rattle.export.proofs.find_listed.Goals as goal
 
-pub returns-then-not-has_bit : goal.returns-then-not-has_bit
-returns-then-not-has_bit c =
+pub returns-in_err-layout : goal.returns-in_err-layout
+returns-in_err-layout c =
     let a = c.args in
-    rw c.waiting.ensures
-    (block_missing a.len (memory a.image.now a.map.now) a.list.now a.i a.table (sym c.has_bit.ensures ∙ c.if-not-has_bit.true))
-
-pub returns-then-not-header_holds : goal.returns-then-not-header_holds
-returns-then-not-header_holds c =
-    let a = c.args in
-    header_broken a.len (memory a.image.now a.map.now) a.list.now a.i a.table
-    (sym c.has_bit.ensures ∙ c.if-not-has_bit.false) (rw c.first_block-block.ensures at c.header_holds.ensures)
-    c.if-not-header_holds.true
-
-pub nonzero_div-len : goal.nonzero_div-len
-nonzero_div-len c =
-    let a = c.args in
-    let holds = sym c.header_holds.ensures ∙ c.if-not-header_holds.false in
-    omega (arith, (good_header a.len c.first_block-block.result.now holds).least, c.u32_at-size.ensures)
-
-pub returns-in_err-found : goal.returns-in_err-found
-returns-in_err-found c =
-    let a = c.args in
-    let held = sym c.has_bit.ensures ∙ c.if-not-has_bit.false in
-    let holds = rw c.first_block-block.ensures at c.header_holds.ensures in
-    let read = c.u32_at-size.ensures ∙ ap (λ (b : Bytes). len_page b) c.first_block-block.ensures in
+    let m = memory a.image.now a.map.now in
+    let told = once_told m (layout_in a.len) _ c.once_held.result c.once_held.ensures (λ x q. search rules) in
     let passed = err_from_is_err_and c.from_residual.result c.from_residual.ensures.1 in
     rw (passed.1, passed.2)
-    (element_read a.len (memory a.image.now a.map.now) a.list.now a.i a.table held holds c.if-not-header_holds.false read c.in_err-found.ensures)
+    (ap (λ (x : Answer (Found FileLayout)). then_found x (element_row m a.list.now a.i a.table)) (rw c.in_err-layout.was at told)
+    ∙ listed_start a.len m a.list.now a.i a.table)
 
 pub returns : goal.returns
 returns c =
     let a = c.args in
-    let held = sym c.has_bit.ensures ∙ c.if-not-has_bit.false in
-    let holds = rw c.first_block-block.ensures at c.header_holds.ensures in
-    let read = c.u32_at-size.ensures ∙ ap (λ (b : Bytes). len_page b) c.first_block-block.ensures in
-    map_then (λ (row : Row). row) (λ (at : SizedRow). at) (row_at c.u32_at-size.result) _ c.in_ok-found.found c.map.result c.map.ensures (λ x y q. search rules)
-    ∙ element_read a.len (memory a.image.now a.map.now) a.list.now a.i a.table held holds c.if-not-header_holds.false read c.in_ok-found.ensures
+    let m = memory a.image.now a.map.now in
+    let told = once_told m (layout_in a.len) _ c.once_held.result c.once_held.ensures (λ x q. search rules) in
+    follow_then (λ (file : FileLayout). file) (λ (at : SizedRow). at) (element_row m a.list.now a.i a.table) _ c.in_ok-layout.layout c.and_then.result c.and_then.ensures (λ x y q. search rules)
+    ∙ ap (λ (x : Answer (Found FileLayout)). then_found x (element_row m a.list.now a.i a.table)) (rw c.in_ok-layout.was at told)
+    ∙ listed_start a.len m a.list.now a.i a.table

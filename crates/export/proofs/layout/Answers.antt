@@ -1,9 +1,11 @@
 -- `export::layout` meets its contract: the check's verdict says whether `check_call` goes on to block 0.
 use mathlib.Core.Path.{sym, ◌∙◌}
+use borrow.Author.Rules.{rules}
 use Rattle.std.proofs.lemmas.Result.{err_from_is_err_and}
 use Rattle.intake.specs.Memory.{memory}
 use Rattle.intake.proofs.RulesPassed.{call_refused, call_passes}
-use Rattle.export.specs.Layout.{ask_layout}
+use Rattle.export.specs.Layout.{layout_in, ask_layout}
+use Rattle.export.proofs.LayoutStart.{once_told}
 use Rattle.export.proofs.layout.Goals as goal
 
 pub returns-in_err-check : goal.returns-in_err-check
@@ -17,4 +19,6 @@ pub returns : goal.returns
 unfolding ask_layout
 returns c =
     let a = c.args in
-    c.layout_of.ensures ∙ sym (call_passes a.intake.len (memory a.image.now a.map.now) (sym c.in_ok-check.ensures) _)
+    let m = memory a.image.now a.map.now in
+    once_told m (layout_in a.intake.len) _ c.once_held.result c.once_held.ensures (λ x q. search rules)
+    ∙ sym (call_passes a.intake.len m (sym c.in_ok-check.ensures) _)

@@ -25,15 +25,15 @@ find_row-requires c =
     let a = c.args in
     asked_sound a.intake.len (memory a.image.now a.map.now) a.number c.in_ok-table.ensures
 
-pub returns-in_err-found : goal.returns-in_err-found
+pub returns-in_err-find_row : goal.returns-in_err-find_row
 unfolding ask_record
-returns-in_err-found c =
+returns-in_err-find_row c =
     let a = c.args in
     let m = memory a.image.now a.map.now in
     let table = c.in_ok-table.table in
-    let passed = err_from_is_err_and c.from_residual-in_err-found.result c.from_residual-in_err-found.ensures.1 in
+    let passed = err_from_is_err_and c.from_residual-in_err-find_row.result c.from_residual-in_err-find_row.ensures.1 in
     rw (passed.1, passed.2, ← c.in_ok-table.ensures)
-    (ap (λ (x : Answer (Found SizedRow)). then_found x (record_in table a.image.now)) c.in_err-found.ensures
+    (ap (λ (x : Answer (Found SizedRow)). then_found x (record_in table a.image.now)) c.in_err-find_row.ensures
     ∙ by_row (page_size m) a.k (record_in table a.image.now) (table_walk a.intake.len m table))
 
 pub returns : goal.returns
@@ -43,6 +43,6 @@ returns c =
     let m = memory a.image.now a.map.now in
     let table = c.in_ok-table.table in
     rw (← c.in_ok-table.ensures)
-    (map_then (λ (at : SizedRow). at) record_on_of (record_in table a.image.now) _ c.in_ok-found.found c.map.result c.map.ensures (λ x y q. search rules)
-    ∙ ap (λ (x : Answer (Found SizedRow)). then_found x (record_in table a.image.now)) c.in_ok-found.ensures
+    (map_then (λ (at : SizedRow). at) record_on_of (record_in table a.image.now) _ c.in_ok-find_row.field-0 c.map.result c.map.ensures (λ x y q. search rules)
+    ∙ ap (λ (x : Answer (Found SizedRow)). then_found x (record_in table a.image.now)) c.in_ok-find_row.ensures
     ∙ by_row (page_size m) a.k (record_in table a.image.now) (table_walk a.intake.len m table))

@@ -20,15 +20,15 @@ returns-in_err-table c =
     let passed = err_from_is_err_and c.from_residual.result c.from_residual.ensures.1 in
     rw (passed.1, passed.2, ← c.in_err-table.ensures)
 
-pub returns-in_err-found : goal.returns-in_err-found
+pub returns-in_err-find_listed : goal.returns-in_err-find_listed
 unfolding ask_record_in
-returns-in_err-found c =
+returns-in_err-find_listed c =
     let a = c.args in
     let m = memory a.image.now a.map.now in
     let table = c.in_ok-table.table in
-    let passed = err_from_is_err_and c.from_residual-in_err-found.result c.from_residual-in_err-found.ensures.1 in
+    let passed = err_from_is_err_and c.from_residual-in_err-find_listed.result c.from_residual-in_err-find_listed.ensures.1 in
     rw (passed.1, passed.2, ← c.in_ok-table.ensures)
-    (ap (λ (x : Answer (Found SizedRow)). then_found x (record_in table a.image.now)) c.in_err-found.ensures
+    (ap (λ (x : Answer (Found SizedRow)). then_found x (record_in table a.image.now)) c.in_err-find_listed.ensures
     ∙ listed-row (page_size m) (table_listed a.intake.len m a.list.now a.i table) (record_in table a.image.now))
 
 pub returns : goal.returns
@@ -38,6 +38,6 @@ returns c =
     let m = memory a.image.now a.map.now in
     let table = c.in_ok-table.table in
     rw (← c.in_ok-table.ensures)
-    (map_then (λ (at : SizedRow). at) record_on_of (record_in table a.image.now) _ c.in_ok-found.found c.map.result c.map.ensures (λ x y q. search rules)
-    ∙ ap (λ (x : Answer (Found SizedRow)). then_found x (record_in table a.image.now)) c.in_ok-found.ensures
+    (map_then (λ (at : SizedRow). at) record_on_of (record_in table a.image.now) _ c.in_ok-find_listed.field-0 c.map.result c.map.ensures (λ x y q. search rules)
+    ∙ ap (λ (x : Answer (Found SizedRow)). then_found x (record_in table a.image.now)) c.in_ok-find_listed.ensures
     ∙ listed-row (page_size m) (table_listed a.intake.len m a.list.now a.i table) (record_in table a.image.now))

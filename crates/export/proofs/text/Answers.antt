@@ -28,16 +28,16 @@ find_row-requires c =
     let a = c.args in
     slot_sound a.intake.len (memory a.image.now a.map.now) a.number a.slot c.in_ok-table.ensures
 
-pub returns-in_err-found : goal.returns-in_err-found
+pub returns-in_err-find_row : goal.returns-in_err-find_row
 unfolding ask_text
-returns-in_err-found c =
+returns-in_err-find_row c =
     let a = c.args in
     let m = memory a.image.now a.map.now in
     let table = c.in_ok-table.table in
     let answer : SizedRow → Answer (Found TextPlace) = λ at. text_on at.size a.image.now table a.slot at.row in
-    let passed = err_from_is_err_and c.from_residual-in_err-found.result c.from_residual-in_err-found.ensures.1 in
+    let passed = err_from_is_err_and c.from_residual-in_err-find_row.result c.from_residual-in_err-find_row.ensures.1 in
     rw (passed.1, passed.2, ← slot_then a.slot (λ table. settle_row (text_at m table a.slot) a.k (table_walk a.intake.len m table)) (asked_table a.intake.len m a.number), ← c.in_ok-table.ensures)
-    (ap (λ (x : Answer (Found SizedRow)). then_found x answer) c.in_err-found.ensures
+    (ap (λ (x : Answer (Found SizedRow)). then_found x answer) c.in_err-find_row.ensures
     ∙ by_row (page_size m) a.k answer (table_walk a.intake.len m table))
 
 pub returns : goal.returns
@@ -48,6 +48,6 @@ returns c =
     let table = c.in_ok-table.table in
     let answer : SizedRow → Answer (Found TextPlace) = λ at. text_on at.size a.image.now table a.slot at.row in
     rw (← slot_then a.slot (λ table. settle_row (text_at m table a.slot) a.k (table_walk a.intake.len m table)) (asked_table a.intake.len m a.number), ← c.in_ok-table.ensures)
-    (follow_then (λ (at : SizedRow). at) text_place_of answer _ c.in_ok-found.found c.and_then.result c.and_then.ensures (λ x y q. search rules)
-    ∙ ap (λ (x : Answer (Found SizedRow)). then_found x answer) c.in_ok-found.ensures
+    (follow_then (λ (at : SizedRow). at) text_place_of answer _ c.in_ok-find_row.field-0 c.and_then.result c.and_then.ensures (λ x y q. search rules)
+    ∙ ap (λ (x : Answer (Found SizedRow)). then_found x answer) c.in_ok-find_row.ensures
     ∙ by_row (page_size m) a.k answer (table_walk a.intake.len m table))

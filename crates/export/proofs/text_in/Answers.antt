@@ -23,16 +23,16 @@ returns-in_err-table c =
     let passed = err_from_is_err_and c.from_residual.result c.from_residual.ensures.1 in
     rw (passed.1, passed.2, ← slot_then a.slot (λ table. then_found (table_listed a.intake.len m a.list.now a.i table) (text_at m table a.slot)) (asked_table a.intake.len m a.number), ← c.in_err-table.ensures)
 
-pub returns-in_err-found : goal.returns-in_err-found
+pub returns-in_err-find_listed : goal.returns-in_err-find_listed
 unfolding ask_text_in
-returns-in_err-found c =
+returns-in_err-find_listed c =
     let a = c.args in
     let m = memory a.image.now a.map.now in
     let table = c.in_ok-table.table in
     let answer : SizedRow → Answer (Found TextPlace) = λ at. text_on at.size a.image.now table a.slot at.row in
-    let passed = err_from_is_err_and c.from_residual-in_err-found.result c.from_residual-in_err-found.ensures.1 in
+    let passed = err_from_is_err_and c.from_residual-in_err-find_listed.result c.from_residual-in_err-find_listed.ensures.1 in
     rw (passed.1, passed.2, ← slot_then a.slot (λ table. then_found (table_listed a.intake.len m a.list.now a.i table) (text_at m table a.slot)) (asked_table a.intake.len m a.number), ← c.in_ok-table.ensures)
-    (ap (λ (x : Answer (Found SizedRow)). then_found x answer) c.in_err-found.ensures
+    (ap (λ (x : Answer (Found SizedRow)). then_found x answer) c.in_err-find_listed.ensures
     ∙ listed-row (page_size m) (table_listed a.intake.len m a.list.now a.i table) answer)
 
 pub returns : goal.returns
@@ -43,6 +43,6 @@ returns c =
     let table = c.in_ok-table.table in
     let answer : SizedRow → Answer (Found TextPlace) = λ at. text_on at.size a.image.now table a.slot at.row in
     rw (← slot_then a.slot (λ table. then_found (table_listed a.intake.len m a.list.now a.i table) (text_at m table a.slot)) (asked_table a.intake.len m a.number), ← c.in_ok-table.ensures)
-    (follow_then (λ (at : SizedRow). at) text_place_of answer _ c.in_ok-found.found c.and_then.result c.and_then.ensures (λ x y q. search rules)
-    ∙ ap (λ (x : Answer (Found SizedRow)). then_found x answer) c.in_ok-found.ensures
+    (follow_then (λ (at : SizedRow). at) text_place_of answer _ c.in_ok-find_listed.field-0 c.and_then.result c.and_then.ensures (λ x y q. search rules)
+    ∙ ap (λ (x : Answer (Found SizedRow)). then_found x answer) c.in_ok-find_listed.ensures
     ∙ listed-row (page_size m) (table_listed a.intake.len m a.list.now a.i table) answer)

@@ -1,29 +1,23 @@
--- `listed::run_before` meets its contract, by the loop's invariant `Counted` (proofs/RunLoop).
-use mathlib.Core.Path.{sym, ◌∙◌}
-use native.Mathlib.Omega.{arith}
-use Rattle.listed.proofs.RunLoop.{begin, next, enough, stop, end}
+-- `listed::run_before` meets its contract: the places that the chain of iterators counts are those of the run (proofs.RunBack).
+use mathlib.Core.Path.{◌∙◌}
+use Prim.Native.Nat.{◌/◌}
+use lib.ListN.{take}
+use borrow.Author.Rules.{rules}
+use Rattle.std.proofs.lemmas.Iterator.{YieldsList-from_take}
+use Rattle.std.proofs.lemmas.Iterator.Adapters.{YieldsList-from_rev_slice}
+use Rattle.std.proofs.lemmas.Iterator.Consumers.{count_from_yields_List}
+use Rattle.std.proofs.lemmas.Iterator.Search.{YieldsList-from_take_while}
+use Rattle.listed.proofs.RunBack.{on_page, run_counted}
 use Rattle.listed.proofs.run_before.Goals as goal
 
-pub loop-left-init : goal.loop-left-init
-loop-left-init c = begin _ _ _ _
-
-pub returns-then-most-count : goal.returns-then-most-count
-returns-then-most-count c = enough _ _ _ c.loop-left.invariant c.if-most-count.true
-
-pub bounds-list-left : goal.bounds-list-left
-bounds-list-left c = omega (arith, c.loop-left.invariant.passed, c.requires.0)
-
-pub lies_on-requires : goal.lies_on-requires
-lies_on-requires c = c.requires.1
-
-pub returns-then-not-lies_on : goal.returns-then-not-lies_on
-returns-then-not-lies_on c = stop _ _ _ c.loop-left.invariant c.loop-left-test.true (sym c.lies_on.ensures ∙ c.if-not-lies_on.true)
-
-pub overflow_add-count : goal.overflow_add-count
-overflow_add-count c = omega (arith, c.loop-left.invariant.passed)
-
-pub loop-left-preserved : goal.loop-left-preserved
-loop-left-preserved c = next _ _ _ c.loop-left.invariant c.loop-left-test.true c.if-most-count.false (sym c.lies_on.ensures ∙ c.if-not-lies_on.false)
-
 pub returns : goal.returns
-returns c = end _ _ _ c.loop-left.invariant c.loop-left-test.false
+returns c =
+    let a = c.args in
+    let page = a.first / a.size in
+    let source = c.take.ensures.source in
+    count_from_yields_List c.take.result c.count.result c.count.ensures.ran
+    (YieldsList-from_take a.size
+    (YieldsList-from_take_while _ (on_page a.size page) (YieldsList-from_rev_slice (take a.i a.list.now) cc)
+    (rw (← source) at c.take_while.ensures.closure) (rw (← source) at c.take_while.ensures.done) (λ x b q k. search rules))
+    c.take.ensures.count)
+    ∙ run_counted a.size a.list.now page a.i c.requires.0
