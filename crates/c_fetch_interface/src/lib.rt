@@ -37,7 +37,7 @@ pub extern "C" fn sarvoltig_layout(len: u64, image: &[u8], map: &[u64], res: &mu
     ensures { Replied (reply_to layout_reply (ask_layout len (memory image.now map.now))) result
         res.old res.new }
 {
-    c_replies::reply_layout(export::layout(Intake::new(len), image, map), res)
+    c_replies::reply(export::layout(Intake::new(len), image, map), res)
 }
 
 // Asks for the first and the last page of a table.
@@ -52,5 +52,5 @@ pub extern "C" fn sarvoltig_bounds(
     ensures { Replied (reply_to bounds_reply (ask_bounds len (memory image.now map.now) table)) result
         res.old res.new }
 {
-    c_replies::reply_bounds(export::bounds(Intake::new(len), image, map, table), res)
+    c_replies::reply(export::bounds(Intake::new(len), image, map, table), res)
 }

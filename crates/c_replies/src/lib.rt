@@ -228,13 +228,14 @@ impl Values for Text {
     ghost values = { λ text. text_values (text_place_of text) };
 
     fn put_values(self, res: &mut [u64]) -> u32 {
+        let Text {
+            place,
+            len,
+            encoding,
+        } = self;
         c_reply::put(
             Code::DONE,
-            &[
-                self.place as u64,
-                self.len as u64,
-                encoding_number(self.encoding),
-            ],
+            &[place as u64, len as u64, encoding_number(encoding)],
             res,
         )
     }

@@ -14,7 +14,7 @@ use borrow.Author.Tests.{ltb-true}
 use Rattle.lists.specs.Alias.{Bytes}
 use Rattle.lists.specs.Nth.{Nth, nth}
 use Rattle.lists.proofs.Choice.{on, never}
-use Rattle.lists.proofs.Nth.{map_at}
+use Rattle.std.proofs.lemmas.List.{get_or-map}
 use Rattle.refusal.specs.declared.Fault.{Fault}
 use Rattle.refusal.specs.declared.Refusal.{Refusal}
 use Rattle.refusal.specs.Fault.{fault, fault_of}
@@ -127,7 +127,7 @@ judged_ranked : (number : ℕ) (table : Table) (page before : Bytes) (start rank
     (judged table before (row_of number page (get_or chosen rank 0)))
 judged_ranked number table page before start rank chosen =
     on (ltb rank (length chosen))
-    (λ h. rw (length-map chosen (row_of number page), h, map_at (row_of number page) 0 no_row chosen rank (ltb-true rank (length chosen) h)))
+    (λ h. rw (length-map chosen (row_of number page), h, get_or-map (row_of number page) chosen rank 0 no_row (ltb-true rank (length chosen) h)))
     (λ h. rw (length-map chosen (row_of number page), h))
 
 pub ranked_row : (number : ℕ) (table : Table) (page : Bytes) (start rank : ℕ) {index : PageIndex} → Rowful number table page index → {found : Nth Row}
