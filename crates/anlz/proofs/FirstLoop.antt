@@ -10,7 +10,6 @@ use Rattle.std.specs.Option.{option_or}
 use Rattle.refusal.specs.Answer.{Answer, given}
 use Rattle.anlz.specs.declared.Section.{Section}
 use Rattle.anlz.specs.First.{first_with}
-use Rattle.anlz.specs.Private.{if_code}
 
 -- the answer, where so much is found and these sections are left
 unfoldable pub found_among : (code : ℕ) (found : Option Section) → List Section → Answer (Option Section)
@@ -28,6 +27,6 @@ else_more false section None next = refl
 else_more t section (Some s) next = refl
 
 pub found_more : (code : ℕ) (found : Option Section) {then : Option Section} (section : Section)
-    → then ≡ option_or found (if_code code section) → (all : List Section) → found_among code found (section ∷ all) ≡ found_among code then all
+    → then ≡ option_or found (cond (eqb section.code code) (Some section) None) → (all : List Section) → found_among code found (section ∷ all) ≡ found_among code then all
 unfolding found_among first_with
 found_more code found section e all = rw (e, ← else_more (eqb section.code code) section found (first_with code all))

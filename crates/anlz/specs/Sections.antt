@@ -5,7 +5,6 @@ use Rattle.refusal.specs.Fault.{fault}
 use Rattle.refusal.specs.Answer.{Answer, given, refused, refuse_if, and_then}
 use Rattle.anlz.specs.declared.AnlzRefusal.{AnlzRefusal}
 use Rattle.anlz.specs.declared.Section.{Section}
-use Rattle.anlz.specs.declared.Cursor.{Cursor}
 use Rattle.anlz.specs.Fault.{anlz_fault}
 use Rattle.anlz.specs.Header.{header_holds, len_header}
 use Rattle.anlz.specs.Section.{section_holds, section_at}
@@ -40,10 +39,6 @@ first_place file = refuse_if (not (header_holds file)) (fault 20 0) (given (len_
 -- Rule 14.6: all sections of the file
 unfoldable pub sections : (file : Bytes) → Answer (List Section)
 sections file = and_then (first_place file) (λ (place : ℕ). sections_from (length file - place) file place)
-
--- where a cursor stands
-abbrev pub place_of : Cursor → ℕ
-place_of cursor = cursor.place
 
 -- what an iterator over the sections gives as its next: nothing at the end, a section, or a refusal
 abbrev pub next_of : Option (Result Section AnlzRefusal) → Answer (Option Section)

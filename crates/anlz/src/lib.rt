@@ -2,14 +2,12 @@
 #![tactic(auto)]
 
 ghost use Rattle.std.specs.Prelude.{◌≡◌, ◌-◌, ◌≤◌, length, IfOk, Some};
-ghost use Rattle.std.specs.Option.{option_or};
 ghost use Rattle.std.specs.Iterator.{at_most};
 ghost use Rattle.anlz.specs.Fault.{AnlzNumberOf, anlz_refusal_text, anlz_answer_as, anlz_answer_of};
 ghost use Rattle.anlz.specs.Header.{header_holds};
 ghost use Rattle.anlz.specs.Section.{section_holds, tag_of};
-ghost use Rattle.anlz.specs.Sections.{next_section, first_place, place_of, NextSection};
+ghost use Rattle.anlz.specs.Sections.{next_section, first_place, NextSection};
 ghost use Rattle.anlz.specs.First.{first_section};
-ghost use Rattle.anlz.specs.Private.{if_code};
 
 use std::error::Error;
 use std::fmt;
@@ -117,7 +115,7 @@ impl Cursor {
     // Before the first section.
     #[tactic(auto, unfolding(crate::specs::Sections::first_place))]
     pub fn start(file: &[u8]) -> Result<Cursor, AnlzRefusal>
-        ensures { anlz_answer_as place_of result ≡ first_place file.now }
+        ensures { anlz_answer_as (λ c. c.place) result ≡ first_place file.now }
     {
         if header_holds(file) {
             let place = number::u32_be_at(file, 0x04) as usize;
@@ -190,13 +188,6 @@ impl<'a> Iterator for Sections<'a> {
     }
 }
 
-// The section found before, else this one if it has the code.
-fn keep(first: Option<Section>, section: Section, code: u32) -> Option<Section>
-    ensures { result ≡ option_or first (if_code code section) }
-{
-    first.or((section.code == code).then_some(section))
-}
-
 // The first section of a file that has a code, if there is one. Every section is judged, also behind that one.
 pub fn first_section(file: &[u8], code: u32) -> Result<Option<Section>, AnlzRefusal>
     ensures { anlz_answer_of result ≡ first_section file.now code }
@@ -204,7 +195,7 @@ pub fn first_section(file: &[u8], code: u32) -> Result<Option<Section>, AnlzRefu
     let mut first = None;
     for next in Sections::of(file)? {
         let section = next?;
-        first = keep(first, section, code);
+        first = first.or((section.code == code).then_some(section));
     }
     Ok(first)
 }

@@ -25,7 +25,7 @@ returns-in_err-section c =
 
 pub loop-next-preserved : goal.loop-next-preserved
 loop-next-preserved c =
-    left_found c.loop-next.invariant c.next.new.self _ (rw c.in_ok-section.was at c.in-Some.ensures.steps) (found_more _ _ _ c.keep-first.ensures)
+    left_found c.loop-next.invariant c.next.new.self _ (rw c.in_ok-section.was at c.in-Some.ensures.steps) (found_more _ _ _ (search rules))
 
 pub returns : goal.returns
 returns c = sym (found_all _ _) ∙ left_end c.loop-next.invariant c.next.new.self c.in-None.ensures.steps
