@@ -14,7 +14,7 @@ ghost use Rattle.export.specs.FromList.{ask_record_in, ask_text_in};
 ghost use Rattle.c_reply.specs.Reply.{reply_to, Replied};
 ghost use Rattle.c_replies.specs.Replies.{open_reply, deliver_reply, packet_reply, walk_reply, record_reply, text_reply};
 
-use intake::Intake;
+use intake::{Intake, Memory};
 
 // Opens an intake for a file of len bytes.
 #[unsafe(no_mangle)]
@@ -85,7 +85,10 @@ pub extern "C" fn sarvoltig_rows(
         res.old res.new }
     ensures list_after { list.new ≡ (ask_rows len (memory image.now map.now) table list.old).list }
 {
-    c_replies::reply(export::rows(Intake::new(len), image, map, table, list), res)
+    c_replies::reply(
+        export::rows(Intake::new(len), Memory { image, map }, table, list),
+        res,
+    )
 }
 
 // Asks for record k of a table.
@@ -102,7 +105,7 @@ pub extern "C" fn sarvoltig_record(
         res.old res.new }
 {
     c_replies::reply(
-        export::record(Intake::new(len), image, map, table, k as usize),
+        export::record(Intake::new(len), Memory { image, map }, table, k as usize),
         res,
     )
 }
@@ -122,7 +125,13 @@ pub extern "C" fn sarvoltig_record_in(
         res.old res.new }
 {
     c_replies::reply(
-        export::record_in(Intake::new(len), image, map, table, list, i as usize),
+        export::record_in(
+            Intake::new(len),
+            Memory { image, map },
+            table,
+            list,
+            i as usize,
+        ),
         res,
     )
 }
@@ -144,8 +153,7 @@ pub extern "C" fn sarvoltig_text(
     c_replies::reply(
         export::text(
             Intake::new(len),
-            image,
-            map,
+            Memory { image, map },
             table,
             k as usize,
             slot as usize,
@@ -172,8 +180,7 @@ pub extern "C" fn sarvoltig_text_in(
     c_replies::reply(
         export::text_in(
             Intake::new(len),
-            image,
-            map,
+            Memory { image, map },
             table,
             list,
             i as usize,
