@@ -37,7 +37,8 @@ pub extern "C" fn sarvoltig_layout(len: u64, image: &[u8], map: &[u64], res: &mu
     ensures { Replied (reply_to layout_reply (ask_layout len (memory image.now map.now))) result
         res.old res.new }
 {
-    c_replies::reply(export::layout(Intake::new(len), Memory { image, map }), res)
+    let memory = Memory { image, map };
+    c_replies::reply(export::layout(Intake::new(len), memory), res)
 }
 
 // Asks for the first and the last page of a table.
@@ -52,8 +53,6 @@ pub extern "C" fn sarvoltig_bounds(
     ensures { Replied (reply_to bounds_reply (ask_bounds len (memory image.now map.now) table)) result
         res.old res.new }
 {
-    c_replies::reply(
-        export::bounds(Intake::new(len), Memory { image, map }, table),
-        res,
-    )
+    let memory = Memory { image, map };
+    c_replies::reply(export::bounds(Intake::new(len), memory, table), res)
 }

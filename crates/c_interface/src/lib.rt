@@ -85,10 +85,8 @@ pub extern "C" fn sarvoltig_rows(
         res.old res.new }
     ensures list_after { list.new ≡ (ask_rows len (memory image.now map.now) table list.old).list }
 {
-    c_replies::reply(
-        export::rows(Intake::new(len), Memory { image, map }, table, list),
-        res,
-    )
+    let memory = Memory { image, map };
+    c_replies::reply(export::rows(Intake::new(len), memory, table, list), res)
 }
 
 // Asks for record k of a table.
@@ -104,8 +102,9 @@ pub extern "C" fn sarvoltig_record(
     ensures { Replied (reply_to record_reply (ask_record len (memory image.now map.now) table k)) result
         res.old res.new }
 {
+    let memory = Memory { image, map };
     c_replies::reply(
-        export::record(Intake::new(len), Memory { image, map }, table, k as usize),
+        export::record(Intake::new(len), memory, table, k as usize),
         res,
     )
 }
@@ -124,14 +123,9 @@ pub extern "C" fn sarvoltig_record_in(
     ensures { Replied (reply_to record_reply (ask_record_in len (memory image.now map.now) table list.now i)) result
         res.old res.new }
 {
+    let memory = Memory { image, map };
     c_replies::reply(
-        export::record_in(
-            Intake::new(len),
-            Memory { image, map },
-            table,
-            list,
-            i as usize,
-        ),
+        export::record_in(Intake::new(len), memory, table, list, i as usize),
         res,
     )
 }
@@ -150,14 +144,9 @@ pub extern "C" fn sarvoltig_text(
     ensures { Replied (reply_to text_reply (ask_text len (memory image.now map.now) table k slot)) result
         res.old res.new }
 {
+    let memory = Memory { image, map };
     c_replies::reply(
-        export::text(
-            Intake::new(len),
-            Memory { image, map },
-            table,
-            k as usize,
-            slot as usize,
-        ),
+        export::text(Intake::new(len), memory, table, k as usize, slot as usize),
         res,
     )
 }
@@ -177,10 +166,11 @@ pub extern "C" fn sarvoltig_text_in(
     ensures { Replied (reply_to text_reply (ask_text_in len (memory image.now map.now) table list.now i slot)) result
         res.old res.new }
 {
+    let memory = Memory { image, map };
     c_replies::reply(
         export::text_in(
             Intake::new(len),
-            Memory { image, map },
+            memory,
             table,
             list,
             i as usize,
