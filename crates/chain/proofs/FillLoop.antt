@@ -1,12 +1,10 @@
 -- The loop of `fill_along`: its invariant, and how a turn keeps it. Rule 4.10.
---     begin      before the first page
 --     short      after a page for whose rows the list was too short
 --     next       after any other page
 --     end        after the last page
-use mathlib.Core.Path.{◌≡◌, refl, sym, ap, ◌∙◌}
+use mathlib.Core.Path.{◌≡◌, sym, ap, ◌∙◌}
 use mathlib.Core.List.{List, [], ◌++◌}
 use Prim.Native.Nat.{ℕ, ◌+◌, ◌-◌, ◌<◌, ◌≤◌}
-use native.Mathlib.Nat.{sub-zero}
 use native.Mathlib.Omega.{arith}
 use lib.ListN.{length, take, drop}
 use lib.Seq.{sets, length-sets}
@@ -32,9 +30,6 @@ pub record Filling (size : ℕ) (image : Bytes) (first pages : ℕ) (list₀ : P
   pub inside : at ≤ length list
   pub same : length list ≡ length list₀
   pub rest : written list₀ (places_along size image pages first) ≡ sets list at (places_along size image (pages - i) page)
-
-pub begin : (size : ℕ) (image : Bytes) (first pages : ℕ) (list : Places) → Filling size image first pages list first 0 0 list
-begin size image first pages list = record { inside = omega arith; same = refl; rest = rw (sub-zero pages) }
 
 module _ {size : ℕ} {image : Bytes} {first pages : ℕ} {list₀ : Places} {page i at : ℕ} {list : Places}
     (w : Filling size image first pages list₀ page i at list) where

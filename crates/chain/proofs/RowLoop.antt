@@ -3,7 +3,6 @@
 use mathlib.Core.Path.{◌≡◌, sym, ◌∙◌}
 use mathlib.Core.List.{[]}
 use Prim.Native.Nat.{ℕ, ◌+◌, ◌-◌, ◌<◌, ◌≤◌}
-use native.Mathlib.Nat.{sub-zero}
 use native.Mathlib.Omega.{arith}
 use Rattle.lists.specs.Alias.{Bytes}
 use Rattle.lists.specs.Nth.{Nth, element, past, nth}
@@ -24,9 +23,6 @@ row_on size image number k p e = e ∙ rw p
 pub record Locating (size : ℕ) (image : Bytes) (first pages k page i found : ℕ) : Type 0 where
   pub before : found ≤ k
   pub rest : nth no_row (rows_first size image pages first) k 0 ≡ nth no_row (rows_first size image (pages - i) page) (k - found) found
-
-pub begin : (size : ℕ) (image : Bytes) (first pages k : ℕ) → Locating size image first pages k first 0 0
-begin size image first pages k = record { before = omega arith; rest = rw (sub-zero k, sub-zero pages) }
 
 module _ {size : ℕ} {image : Bytes} {first pages k page i found : ℕ} (l : Locating size image first pages k page i found) where
   pub end : pages ≤ i → past found ≡ nth no_row (rows_first size image pages first) k 0

@@ -13,7 +13,7 @@ use Prim.Native.Nat.{ℕ, suc, ◌+◌, ◌-◌, ◌*◌, min, ◌<◌, ◌≤�
 use native.Mathlib.Omega.{arith}
 use lib.ListN.{length, length-append}
 use lib.Dec.{eqb, leb}
-use borrow.Author.Tests.{le-leb, lt-leb, eqb-true, leb-true, leb-false}
+use borrow.Author.Tests.{eqb-true, leb-true, leb-false}
 use Rattle.lists.specs.Member.{is_member}
 use Rattle.refusal.specs.declared.Fault.{Fault}
 use Rattle.refusal.specs.Fault.{fault}
@@ -58,15 +58,6 @@ most count = min count 0x1_0000_0000
 
 most_inside : (count page : ℕ) → linkable count page ≡ true → page < 0x1_0000_0000 → linkable (most count) page ≡ true
 most_inside count page i l = let b = inside_both count page i in both_inside (most count) page b.0 (omega arith)
-
--- the tests of `is_again`
-pub most_full : (count n : ℕ) → 0xffff_ffff ≤ n → leb (most count) (n + 1) ≡ true
-most_full count n h = le-leb (most count) (n + 1) (omega arith)
-
-pub most_left : (count n : ℕ) → n < 0xffff_ffff → leb count (n + 1) ≡ leb (most count) (n + 1)
-most_left count n h =
-    on (leb count (n + 1)) (λ t. t ∙ sym (le-leb (most count) (n + 1) (omega (arith, leb-true count (n + 1) t))))
-    (λ f. f ∙ sym (lt-leb (most count) (n + 1) (omega (arith, leb-false count (n + 1) f))))
 
 -- what a page's count says of its rows
 record Counted (a : Answer Rows) (k : ℕ) : Type 0 where

@@ -10,7 +10,7 @@ ghost use Rattle.desk_steps.specs.Text.{reply_text, error_text};
 
 use chain::Walked;
 use format::Block;
-use intake::{Delivered, Intake};
+use intake::{Delivered, Intake, Memory};
 use refusal::Refusal;
 use std::error::Error;
 use std::fmt;
@@ -196,7 +196,7 @@ fn ask(
     ensures { step_outcome (reply_of result) (state intake.len image.now map.now list.new)
         ≡ step (state intake.len image.now map.now list.old) (ask_table number) }
 {
-    Ok(Reply::from(export::rows(intake, image, map, number, list)?))
+    Ok(Reply::from(export::rows(intake, Memory { image, map }, number, list)?))
 }
 
 // Runs a command whose body is given.

@@ -1,17 +1,8 @@
 -- `chain::fill_along` meets its contract, by the loop's invariant `Filling` (proofs/FillLoop).
 use mathlib.Core.Path.{refl}
-use borrow.Author.Rules.{rules}
-use Rattle.chain.proofs.FillLoop.{begin, end, short, next}
+use Rattle.chain.proofs.FillLoop.{end, short, next}
 use Rattle.chain.proofs.PagePart.{part_next}
 use Rattle.chain.proofs.fill_along.Goals as goal
-
-pub loop-init : goal.loop-init
-loop-init c = begin _ _ _ _ _
-
-pub shape_of-list-then-list-at : goal.shape_of-list-then-list-at
-shape_of-list-then-list-at c =
-    let inv = c.loop.invariant in
-    search (rules, inv.same)
 
 pub returns-then-list-at : goal.returns-then-list-at
 returns-then-list-at c =
@@ -24,9 +15,6 @@ loop-preserved c =
     let inv = c.loop.invariant in
     let wrote = c.fill_page-found.ensures in
     next inv _ wrote.1 c.loop-test.true wrote.0 refl c.if-list-at.false (part_next _ _ _ c.part.ensures c.next-page.ensures)
-
-pub shape_of-list : goal.shape_of-list
-shape_of-list c = c.loop.invariant.same
 
 pub returns : goal.returns
 returns c = end c.loop.invariant c.loop-test.false

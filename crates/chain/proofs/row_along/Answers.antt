@@ -1,26 +1,12 @@
 -- `chain::row_along` meets its contract: by the loop's invariant `Locating` (proofs/RowLoop).
-use native.Mathlib.Omega.{arith}
-use borrow.Author.Rules.{rules}
 use Rattle.chain.proofs.PagePart.{part_next}
-use Rattle.chain.proofs.RowLoop.{row_on, begin, here, next, end, still_before}
+use Rattle.chain.proofs.RowLoop.{row_on, here, next, end}
 use Rattle.chain.proofs.row_along.Goals as goal
-
-pub loop-init : goal.loop-init
-loop-init c = begin _ _ _ _ _
-
-pub overflow_sub-k : goal.overflow_sub-k
-overflow_sub-k c = search (rules, c.loop.invariant.before)
 
 pub returns-in-Ok : goal.returns-in-Ok
 returns-in-Ok c =
     let found = row_on _ _ _ _ c.part-bytes.ensures c.row_at.ensures.0 in
     here c.loop.invariant c.loop-test.true (rw c.in-Ok.is at found)
-
-pub overflow_add-found : goal.overflow_add-found
-overflow_add-found c =
-    let found = row_on _ _ _ _ c.part-bytes.ensures c.row_at.ensures.0 in
-    let kept = still_before c.loop.invariant (rw c.in-Err.is at found) in
-    omega arith
 
 pub loop-preserved : goal.loop-preserved
 loop-preserved c =

@@ -58,16 +58,10 @@ overflow_add-rows c =
     let here = turn c.loop-chain.invariant c.linkable.ensures c.loop-chain-test.true c.is_again.ensures c.if-is_again.false c.is_held.ensures c.if-not-is_held.false in
     record { fits = rows_room here.going here.left (count c.args.chain.len_page c.args.image.now c.loop-chain.page c.args.table (omega arith) c.part-bytes.ensures c.read.ensures c.in_ok-rows.was).1 }
 
-pub overflow_add-pages : goal.overflow_add-pages
-overflow_add-pages c = omega (arith, (turn c.loop-chain.invariant c.linkable.ensures c.loop-chain-test.true c.is_again.ensures c.if-is_again.false c.is_held.ensures c.if-not-is_held.false).going.room)
-
 pub returns-then-page-chain : goal.returns-then-page-chain
 returns-then-page-chain c =
     let here = turn c.loop-chain.invariant c.linkable.ensures c.loop-chain-test.true c.is_again.ensures c.if-is_again.false c.is_held.ensures c.if-not-is_held.false in
     at_last here.going here.inside here.held (count c.args.chain.len_page c.args.image.now c.loop-chain.page c.args.table (omega arith) c.part-bytes.ensures c.read.ensures c.in_ok-rows.was).0 (eq-eqb _ _ c.if-page-chain.true)
-
-pub loop-chain-smaller : goal.loop-chain-smaller
-loop-chain-smaller c = omega (arith, (turn c.loop-chain.invariant c.linkable.ensures c.loop-chain-test.true c.is_again.ensures c.if-is_again.false c.is_held.ensures c.if-not-is_held.false).going.room)
 
 pub loop-chain-preserved : goal.loop-chain-preserved
 loop-chain-preserved c =

@@ -12,6 +12,3 @@ pub keep-requires : goal.keep-requires
 keep-requires c =
     let h = good_header c.args.len c.args.block.now c.requires in
     omega (arith, c.u32_at-n.ensures)
-
-pub returns : goal.returns
-returns c = rw (c.keep.ensures, c.u32_at-size.ensures, c.u32_at-n.ensures)

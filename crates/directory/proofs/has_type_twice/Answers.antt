@@ -5,9 +5,6 @@ use Rattle.directory.proofs.has_type_twice.Goals as goal
 pub loop-i-init : goal.loop-i-init
 loop-i-init c = twice_begin
 
-pub has_type_in-requires : goal.has_type_in-requires
-has_type_in-requires c = c.loop-i.invariant.word
-
 pub returns-then-has_type_in : goal.returns-then-has_type_in
 returns-then-has_type_in c = twice_here c.loop-i.invariant c.loop-i-test.true c.type_at-t.ensures c.has_type_in.ensures c.if-has_type_in.true
 

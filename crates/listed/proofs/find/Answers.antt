@@ -26,11 +26,6 @@ returns-then-not-is_held c =
     rw c.waiting.ensures
     (page_missing _ _ _ _ _ _ _ c.if-list-i.false c.linkable.ensures c.if-not-linkable.false c.is_held.ensures c.if-not-is_held.true)
 
-pub overflow_sub-place : goal.overflow_sub-place
-overflow_sub-place c =
-    let a = c.args in
-    omega (arith, mod-le (get_or a.list.now a.i 0) a.size)
-
 pub run_before-rank-requires : goal.run_before-rank-requires
 run_before-rank-requires c =
     let a = c.args in

@@ -2,8 +2,5 @@
 use Rattle.listed.proofs.SamePage.{before_page, page_test}
 use Rattle.listed.proofs.lies_on.Goals as goal
 
-pub returns-then-place-first : goal.returns-then-place-first
-returns-then-place-first c = before_page _ _ _ c.requires.0 c.requires.1 c.if-place-first.true
-
 pub returns : goal.returns
 returns c = page_test _ _ _ c.requires.0 c.requires.1 c.if-place-first.false

@@ -1,10 +1,6 @@
 -- `directory::Directory::read` meets its contract: whether the header holds chooses the case of `read_header`.
-use mathlib.Core.Path.{sym, ◌∙◌}
 use Rattle.directory.specs.Directory.{read_header}
 use Rattle.directory.proofs.Directory.read.Goals as goal
-
-pub directory_of-requires : goal.directory_of-requires
-directory_of-requires c = sym c.header_holds.ensures ∙ c.if-header_holds.true
 
 pub returns-then-header_holds : goal.returns-then-header_holds
 unfolding read_header
