@@ -1,7 +1,6 @@
 -- Rules 14.2 and 14.3: where the sections start, and that a file of 2^32 bytes and more is refused (`long_refused`).
 use mathlib.Core.Path.{◌≡◌}
 use mathlib.Core.Bool.{true}
-use mathlib.Core.List.{List}
 use Prim.Native.Nat.{ℕ, ◌-◌, ◌≤◌}
 use native.Mathlib.Omega.{arith}
 use lib.ListN.{length}
@@ -11,13 +10,11 @@ use Rattle.lists.specs.Alias.{Bytes}
 use Rattle.lists.proofs.Choice.{on, never, both_true}
 use Rattle.number.proofs.Number.{be32_fits}
 use Rattle.refusal.specs.declared.Fault.{Fault}
-use Rattle.refusal.specs.Answer.{Answer, given, refused, and_then}
-use Rattle.anlz.specs.declared.Section.{Section}
+use Rattle.refusal.specs.Answer.{given, refused}
 use Rattle.anlz.specs.Header.{header_holds, pmai, file_code, len_header, len_file}
 use Rattle.anlz.specs.Sections.{first_place, sections, sections_from}
 use Rattle.anlz.specs.Long.{EveryLongFile}
 use Rattle.anlz.specs.First.{first_section}
-use Rattle.anlz.specs.Private.{made_from, first_from}
 
 -- what a header that holds says of the file
 pub record Headed (file : Bytes) : Type 0 where
@@ -53,14 +50,6 @@ module _ (file : Bytes) where
   pub sections_start : {place : ℕ} → given place ≡ first_place file → sections file ≡ sections_from (length file - place) file place
   unfolding sections
   sections_start e = rw (← e)
-
-  pub made_start : {A : Type 0} {place : ℕ} (rest : List Section → Answer A) → given place ≡ first_place file
-      → made_from file place rest ≡ and_then (sections file) rest
-  made_start rest e = rw (sections_start e)
-
-  pub first_start : {place : ℕ} (code : ℕ) → given place ≡ first_place file → first_from file place code ≡ first_section file code
-  unfolding first_section first_from
-  first_start code e = made_start _ e
 
   pub sections_refused : {f : Fault} → refused f ≡ first_place file → sections file ≡ refused f
   unfolding sections

@@ -1,5 +1,4 @@
 -- How the code of crate `anlz` meets its contracts, and what holds of the sections of a file.
---     HeaderTests, SectionTests     the tests of the two envelopes, as the code makes them
 --     FileStart                     where the sections start
 --     NextSection                   what stands at a place: the end, a section whole inside the file, or a broken one
 --     StepsEnough                   the steps of the definition suffice
@@ -8,8 +7,6 @@
 --     FirstLoop                     going through them for a code
 --     ElementAt                     an element of a list by its number
 --     SectionsAgree                 files that agree on the envelopes have the same sections, and on bytes of a section such tags
-pub mod HeaderTests
-pub mod SectionTests
 pub mod FileStart
 pub mod NextSection
 pub mod StepsEnough

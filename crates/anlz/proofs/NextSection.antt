@@ -5,13 +5,12 @@ use Rattle.std.specs.Prelude.{None, Some}
 use Prim.Native.Nat.{ℕ, ◌+◌, ◌≤◌}
 use native.Mathlib.Omega.{arith}
 use lib.ListN.{length}
-use lib.Dec.{leb, eqb}
+use lib.Dec.{leb}
 use borrow.Author.Tests.{leb-true, eq-eqb, ne_eqb}
 use Rattle.lists.specs.Alias.{Bytes}
-use Rattle.lists.proofs.Choice.{on, never, both_true}
+use Rattle.lists.proofs.Choice.{both_true}
 use Rattle.refusal.specs.Fault.{fault}
 use Rattle.refusal.specs.Answer.{given, refused}
-use Rattle.anlz.specs.declared.Section.{Section}
 use Rattle.anlz.specs.Section.{section_holds, section_at, len_header, len_tag}
 use Rattle.anlz.specs.Sections.{next_section}
 
@@ -48,20 +47,3 @@ module _ (file : Bytes) (place : ℕ) where
       let w = section_whole e in
       let n : place ≡ length file → ⊥ = λ q. omega (arith, w.envelope) in
       rw (ne_eqb place (length file) n, e)
-
--- a section that is found is longer than 11 bytes and ends inside the file
-pub record Inside (file : Bytes) (place : ℕ) (section : Section) : Type 0 where
-  pub more : place + 12 ≤ section.end
-  pub ends : section.end ≤ length file
-
-pub found_inside : (file : Bytes) (place : ℕ) {section : Section} → given (Some section) ≡ next_section file place → Inside file place section
-unfolding next_section
-found_inside file place {section} e =
-    on (eqb place (length file))
-    (λ q. never (cc (rw q at e)))
-    (λ q. on (section_holds file place) (λ h. whole h (cc (rw (q, h) at e))) (λ h. never (cc (rw (q, h) at e))))
-  where
-    whole : section_holds file place ≡ true → section ≡ section_at file place → Inside file place section
-    whole h same =
-        let w = section_whole file place h in
-        rw same (record { more = omega (arith, w.least); ends = w.ends })

@@ -1,53 +1,50 @@
--- Rule 14.6: going through the sections of a file: the answer is what is made of the sections left, and a broken one refuses it. What is
--- made of them is a function (`rest`), which may change from section to section.
+-- Rule 14.6: going through the sections of a file by their iterator: the answer is what is made of the sections left, and a broken one
+-- refuses it. What is made of them is a function (`rest`), which may change from section to section.
 use mathlib.Core.Path.{◌≡◌, refl, sym, ◌∙◌}
 use mathlib.Core.List.{List, [], ◌∷◌}
-use Rattle.std.specs.Prelude.{Option, None, Some}
-use Prim.Native.Nat.{ℕ, ◌-◌, ◌≤◌}
-use native.Mathlib.Omega.{arith}
+use Prim.Native.Nat.{ℕ, ◌-◌}
 use lib.ListN.{length}
+use Rattle.std.specs.Prelude.{Option, None, Some, Result, Ok, Err}
 use Rattle.lists.specs.Alias.{Bytes}
-use Rattle.refusal.specs.declared.Fault.{Fault}
 use Rattle.refusal.specs.Answer.{Answer, given, refused, and_then}
+use Rattle.anlz.specs.declared.AnlzRefusal.{AnlzRefusal}
 use Rattle.anlz.specs.declared.Section.{Section}
-use Rattle.anlz.specs.Sections.{next_section, before, follow, sections_from}
-use Rattle.anlz.specs.Private.{made_from}
-use Rattle.anlz.proofs.NextSection.{found_inside}
-use Rattle.anlz.proofs.StepsEnough.{from_end, sections_step}
+use Rattle.anlz.specs.declared.Sections.{Sections}
+use Rattle.anlz.specs.Fault.{anlz_fault}
+use Rattle.anlz.specs.Sections.{before, follow, sections_from, first_place, sections, next_of, NextSection}
+use Rattle.anlz.proofs.FileStart.{sections_start}
+use Rattle.anlz.proofs.StepsEnough.{sections_step}
 
-pub record SectionsLeft {A : Type 0} (file : Bytes) (whole : Answer A) (at : ℕ) (rest : List Section → Answer A) : Type 0 where
-  pub inside : at ≤ length file
-  pub made : whole ≡ made_from file at rest
+-- what is made of the sections from a place on
+abbrev made_from : {A : Type 0} (file : Bytes) (place : ℕ) (rest : List Section → Answer A) → Answer A
+made_from file place rest = and_then (sections_from (length file - place) file place) rest
 
-pub left_begin : {A : Type 0} (file : Bytes) (place : ℕ) (rest : List Section → Answer A) → place ≤ length file
-    → SectionsLeft file (made_from file place rest) place rest
-left_begin file place rest h = record { inside = h; made = refl }
+-- the whole answer is what is made of the sections that the iterator has left
+pub record SectionsLeft {A : Type 0} (s : Sections) (whole : Answer A) (rest : List Section → Answer A) : Type 0 where
+  pub made : whole ≡ made_from s.file.now s.cursor.place rest
+
+pub left_begin : {A : Type 0} (s : Sections) (file : Bytes) (rest : List Section → Answer A) → given s.cursor.place ≡ first_place file
+    → s.file.now ≡ file → SectionsLeft s (and_then (sections file) rest) rest
+left_begin s file rest e h = record { made = rw (h, sections_start file e) }
 
 made_more : {A : Type 0} (section : Section) (rest then : List Section → Answer A) → ((all : List Section) → rest (section ∷ all) ≡ then all)
     → (left : Answer (List Section)) → and_then (before section left) rest ≡ and_then left then
 made_more section rest then e (given all) = e all
 made_more section rest then e (refused f) = refl
 
-module _ {A : Type 0} {file : Bytes} {whole : Answer A} {at : ℕ} {rest : List Section → Answer A} (l : SectionsLeft file whole at rest) where
-  pub left_past : length file ≤ at → rest [] ≡ whole
-  left_past h =
-      let e : at ≡ length file = omega (arith, l.inside) in
-      sym (l.made ∙ rw (from_end file (length file - at) at e))
+module _ {A : Type 0} {s : Sections} {whole : Answer A} {rest : List Section → Answer A} (l : SectionsLeft s whole rest) (t : Sections) where
+  step : (next : Option (Result Section AnlzRefusal)) → NextSection s.file.now s.cursor.place next t.file.now t.cursor.place
+      → whole ≡ and_then (follow (next_of next) (λ (section : Section). before section (sections_from (length s.file.now - section.end) s.file.now section.end))) rest
+  step next h = l.made ∙ rw (h.1, sections_step s.file.now s.cursor.place s.inside)
 
-  step : {next : Answer (Option Section)} → next ≡ next_section file at
-      → whole ≡ and_then (follow next (λ (section : Section). before section (sections_from (length file - section.end) file section.end))) rest
-  step e = l.made ∙ rw (e, sections_step file at l.inside)
+  pub left_end : NextSection s.file.now s.cursor.place None t.file.now t.cursor.place → rest [] ≡ whole
+  left_end h = sym (step None h)
 
-  pub left_end : given None ≡ next_section file at → rest [] ≡ whole
-  left_end e = sym (step e)
+  pub left_broken : (refusal : AnlzRefusal) → NextSection s.file.now s.cursor.place (Some (Err refusal)) t.file.now t.cursor.place
+      → refused (anlz_fault refusal) ≡ whole
+  left_broken refusal h = sym (step (Some (Err refusal)) h)
 
-  pub left_broken : {f : Fault} → refused f ≡ next_section file at → refused f ≡ whole
-  left_broken e = sym (step e)
-
-  pub left_found : {section : Section} (then : List Section → Answer A) → given (Some section) ≡ next_section file at
-      → ((all : List Section) → rest (section ∷ all) ≡ then all) → SectionsLeft file whole section.end then
-  left_found {section} then e more =
-      record {
-        inside = (found_inside file at e).ends;
-        made = step e ∙ made_more section rest then more (sections_from (length file - section.end) file section.end);
-      }
+  pub left_found : {section : Section} (then : List Section → Answer A) → NextSection s.file.now s.cursor.place (Some (Ok section)) t.file.now t.cursor.place
+      → ((all : List Section) → rest (section ∷ all) ≡ then all) → SectionsLeft t whole then
+  left_found {section} then h more =
+      record { made = step (Some (Ok section)) h ∙ rw (h.0, h.2) (made_more section rest then more (sections_from (length s.file.now - section.end) s.file.now section.end)) }

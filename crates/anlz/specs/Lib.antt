@@ -6,7 +6,6 @@
 --     First, All                 the first section with a code, and every one
 --     Element                    an element of a list by its number
 --     Bytes                      the bytes that the sections depend on, and the bytes of a section
---     Private                    what only private functions cite
 pub mod Fault
 pub mod Header
 pub mod Section
@@ -17,4 +16,3 @@ pub mod First
 pub mod All
 pub mod Element
 pub mod Bytes
-pub mod Private

@@ -1,10 +1,11 @@
 -- Rules 14.5 and 14.6: the sections of an ANLZ file in file order, or the refusal.
-use Rattle.std.specs.Prelude.{not, cond, List, [], ◌∷◌, ℕ, zero, suc, ◌-◌, length, eqb, Option, None, Some}
+use Rattle.std.specs.Prelude.{◌≡◌, not, cond, List, [], ◌∷◌, ℕ, zero, suc, ◌-◌, length, eqb, Option, None, Some, Result, Ok, Err}
 use Rattle.lists.specs.Alias.{Bytes}
 use Rattle.refusal.specs.Fault.{fault}
 use Rattle.refusal.specs.Answer.{Answer, given, refused, refuse_if, and_then}
+use Rattle.anlz.specs.declared.AnlzRefusal.{AnlzRefusal}
 use Rattle.anlz.specs.declared.Section.{Section}
-use Rattle.anlz.specs.declared.Cursor.{Cursor}
+use Rattle.anlz.specs.Fault.{anlz_fault}
 use Rattle.anlz.specs.Header.{header_holds, len_header}
 use Rattle.anlz.specs.Section.{section_holds, section_at}
 
@@ -39,6 +40,18 @@ first_place file = refuse_if (not (header_holds file)) (fault 20 0) (given (len_
 unfoldable pub sections : (file : Bytes) → Answer (List Section)
 sections file = and_then (first_place file) (λ (place : ℕ). sections_from (length file - place) file place)
 
--- where a cursor stands
-abbrev pub place_of : Cursor → ℕ
-place_of cursor = cursor.place
+-- what an iterator over the sections gives as its next: nothing at the end, a section, or a refusal
+abbrev pub next_of : Option (Result Section AnlzRefusal) → Answer (Option Section)
+next_of None = given None
+next_of (Some (Ok section)) = given (Some section)
+next_of (Some (Err refusal)) = refused (anlz_fault refusal)
+
+-- where it stands then: behind the section, or at the end
+abbrev pub behind : (end : ℕ) → Option (Result Section AnlzRefusal) → ℕ
+behind end None = end
+behind end (Some (Ok section)) = section.end
+behind end (Some (Err refusal)) = end
+
+-- it goes through the same file, gives the section at its place, and stands behind it then
+abbrev pub NextSection : (file : Bytes) (place : ℕ) (next : Option (Result Section AnlzRefusal)) (file' : Bytes) (place' : ℕ) → Type 0
+NextSection file place next file' place' = (file' ≡ file) × (next_of next ≡ next_section file place) × (place' ≡ behind (length file) next)

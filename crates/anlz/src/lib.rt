@@ -1,13 +1,16 @@
-// An ANLZ file: its header, its sections in file order, and the first of them with a code.
+// An ANLZ file: its header, an iterator over its sections in file order, and the first of them with a code.
 #![tactic(auto)]
 
-ghost use Rattle.std.specs.Prelude.{◌≡◌, ◌≤◌, length};
-ghost use Rattle.anlz.specs.Fault.{AnlzNumberOf, anlz_answer_as, anlz_answer_of};
+ghost use Rattle.std.specs.Prelude.{◌≡◌, ◌-◌, ◌≤◌, length, IfOk, Some};
+ghost use Rattle.std.specs.Iterator.{at_most};
+ghost use Rattle.anlz.specs.Fault.{AnlzNumberOf, anlz_refusal_text, anlz_answer_as, anlz_answer_of};
 ghost use Rattle.anlz.specs.Header.{header_holds};
 ghost use Rattle.anlz.specs.Section.{section_holds, tag_of};
-ghost use Rattle.anlz.specs.Sections.{next_section, first_place, place_of};
+ghost use Rattle.anlz.specs.Sections.{next_section, first_place, NextSection};
 ghost use Rattle.anlz.specs.First.{first_section};
-ghost use Rattle.anlz.specs.Private.{or_else, if_code, first_from};
+
+use std::error::Error;
+use std::fmt;
 
 // The code that an ANLZ file starts with.
 const PMAI: u32 = 0x504d_4149;
@@ -47,6 +50,16 @@ impl From<AnlzRefusal> for u32 {
     }
 }
 
+impl fmt::Display for AnlzRefusal {
+    ghost output = { λ refusal. Some (anlz_refusal_text refusal) };
+
+    fn fmt<W: fmt::Write>(&self, f: &mut fmt::Formatter<W>) -> fmt::Result {
+        write!(f, "refused {}", u32::from(*self))
+    }
+}
+
+impl Error for AnlzRefusal {}
+
 // A section: its code, and where it starts and ends in the file.
 #[derive(Clone, Copy, Debug, PartialEq, Eq)]
 pub struct Section {
@@ -61,27 +74,28 @@ pub struct Cursor {
     pub place: usize,
 }
 
+// The sections of a file from a cursor on, in file order. A broken one is refused, and is the last.
+#[derive(Drop)]
+pub struct Sections<'a> {
+    pub file: &'a [u8],
+    pub cursor: Cursor,
+    ghost inside: { cursor.place ≤ length file.now },
+}
+
+#[tactic(auto, unfolding(crate::specs::Header::header_holds))]
 fn header_holds(file: &[u8]) -> bool
     ensures { result ≡ header_holds file.now }
 {
-    if file.len() < ENVELOPE {
-        return false;
-    }
-    if number::u32_be_at(file, 0x00) != PMAI {
-        return false;
-    }
     let len_header = number::u32_be_at(file, 0x04) as usize;
     let len_file = number::u32_be_at(file, 0x08) as usize;
-    if len_file != file.len() {
-        return false;
-    }
-    if ENVELOPE <= len_header {
-        len_header <= len_file
-    } else {
-        false
-    }
+    ENVELOPE <= file.len()
+        && number::u32_be_at(file, 0x00) == PMAI
+        && len_file == file.len()
+        && ENVELOPE <= len_header
+        && len_header <= len_file
 }
 
+#[tactic(auto, unfolding(crate::specs::Section::section_holds))]
 fn section_holds(file: &[u8], place: usize) -> bool
     ensures { result ≡ section_holds file.now place }
 {
@@ -94,20 +108,14 @@ fn section_holds(file: &[u8], place: usize) -> bool
     }
     let len_header = number::u32_be_at(file, place + 0x04) as usize;
     let len_tag = number::u32_be_at(file, place + 0x08) as usize;
-    if len_header < ENVELOPE {
-        return false;
-    }
-    if len_header <= len_tag {
-        len_tag <= left
-    } else {
-        false
-    }
+    ENVELOPE <= len_header && len_header <= len_tag && len_tag <= left
 }
 
 impl Cursor {
     // Before the first section.
+    #[tactic(auto, unfolding(crate::specs::Sections::first_place))]
     pub fn start(file: &[u8]) -> Result<Cursor, AnlzRefusal>
-        ensures { anlz_answer_as place_of result ≡ first_place file.now }
+        ensures { anlz_answer_as (λ c. c.place) result ≡ first_place file.now }
     {
         if header_holds(file) {
             let place = number::u32_be_at(file, 0x04) as usize;
@@ -118,6 +126,7 @@ impl Cursor {
     }
 
     // The section that starts here, if one is left.
+    #[tactic(auto, unfolding(crate::specs::Sections::next_section, crate::specs::Section::section_holds))]
     pub fn step(self, file: &[u8]) -> Result<Option<Section>, AnlzRefusal>
         ensures { anlz_answer_of result ≡ next_section file.now self.place }
     {
@@ -144,48 +153,49 @@ impl Section {
     }
 }
 
-// The section found before, else this one if it has the code.
-fn keep(first: Option<Section>, section: Section, code: u32) -> Option<Section>
-    ensures { result ≡ or_else first (if_code code section) }
-{
-    match first {
-        None => {
-            if section.code == code {
-                Some(section)
-            } else {
-                None
-            }
-        }
-        Some(found) => Some(found),
+impl<'a> Sections<'a> {
+    // All sections of a file.
+    #[tactic(auto, unfolding(crate::specs::Sections::first_place, crate::specs::Header::header_holds))]
+    pub fn of(file: &'a [u8]) -> Result<Sections<'a>, AnlzRefusal>
+        ensures start { anlz_answer_as (λ s. s.cursor.place) result ≡ first_place file.now }
+        ensures file { IfOk result (λ s. s.file.now ≡ file.now) }
+    {
+        let cursor = Cursor::start(file)?;
+        Ok(Sections { file, cursor })
     }
 }
 
-// The first section with a code, from a place in the file on.
-fn first_from(place: usize, file: &[u8], code: u32) -> Result<Option<Section>, AnlzRefusal>
-    requires { place ≤ length file.now }
-    ensures { anlz_answer_of result ≡ first_from file.now place code }
-{
-    let mut at = place;
-    let mut first = None;
-    while at < file.len() {
-        let cursor = Cursor { place: at };
-        match cursor.step(file)? {
-            None => {
-                return Ok(first);
+impl<'a> Iterator for Sections<'a> {
+    type Item = Result<Section, AnlzRefusal>;
+
+    ghost next_gives = { λ s r t. NextSection s.file.now s.cursor.place r t.file.now t.cursor.place };
+
+    ghost remaining = { λ s. at_most (length s.file.now - s.cursor.place) };
+
+    #[tactic(auto, unfolding(crate::specs::Sections::next_section, crate::specs::Section::section_holds))]
+    fn next(&mut self) -> Option<Result<Section, AnlzRefusal>> {
+        match self.cursor.step(self.file) {
+            Ok(None) => None,
+            Ok(Some(section)) => {
+                self.cursor.place = section.end;
+                Some(Ok(section))
             }
-            Some(section) => {
-                first = keep(first, section, code);
-                at = section.end;
+            Err(refusal) => {
+                self.cursor.place = self.file.len();
+                Some(Err(refusal))
             }
         }
     }
-    Ok(first)
 }
 
 // The first section of a file that has a code, if there is one. Every section is judged, also behind that one.
 pub fn first_section(file: &[u8], code: u32) -> Result<Option<Section>, AnlzRefusal>
     ensures { anlz_answer_of result ≡ first_section file.now code }
 {
-    let cursor = Cursor::start(file)?;
-    first_from(cursor.place, file, code)
+    let mut first = None;
+    for next in Sections::of(file)? {
+        let section = next?;
+        first = first.or((section.code == code).then_some(section));
+    }
+    Ok(first)
 }

@@ -2,16 +2,15 @@
 #![tactic(auto)]
 
 ghost use Rattle.std.specs.Prelude.{◌≡◌};
-ghost use Rattle.refusal.specs.Answer.{and_then};
-ghost use Rattle.anlz.specs.Fault.{anlz_answer_of};
-ghost use Rattle.anlz.specs.Element.{element_at};
+ghost use Rattle.anlz.specs.Fault.{anlz_answer_of, anlz_answer_as};
 ghost use Rattle.entries.specs.Entries.{entries};
 ghost use Rattle.entries.specs.Every.{every_entry};
-ghost use Rattle.beat_grid.specs.Beat.{beat_size, beat_of, bar_holds, beat_holds};
-ghost use Rattle.beat_grid.specs.Grid.{grid_in, grid_section};
-ghost use Rattle.beat_grid.specs.Questions.{counted, ask_beats, ask_beat};
+ghost use Rattle.beat_grid.specs.Beat.{beat_of, bar_holds, beat_holds};
+ghost use Rattle.beat_grid.specs.Grid.{grid_in, grid};
+ghost use Rattle.beat_grid.specs.Questions.{ask_beats, ask_beat};
+ghost use Rattle.beat_grid.specs.Private.{beats_of};
 
-use anlz::{AnlzRefusal, Section};
+use anlz::AnlzRefusal;
 use entries::Entries;
 
 // The code of the section that holds a beat grid.
@@ -41,87 +40,67 @@ impl GridBeat {
     }
 }
 
+#[tactic(auto, unfolding(crate::specs::Beat::bar_holds))]
 fn bar_holds(bar_position: u16) -> bool
     ensures { result ≡ bar_holds bar_position }
 {
-    if 1 <= bar_position {
-        bar_position <= 4
-    } else {
-        false
-    }
+    matches!(bar_position, 1..=4)
 }
 
-// Whether each of so many beats has a bar position from 1 to 4.
-fn bars_hold(tag: &[u8], count: u32) -> bool
-    ensures { result ≡ every_entry beat_holds (entries beat_size count tag.now) }
+// Whether each of these beats has a bar position from 1 to 4.
+fn bars_hold(beats: Entries) -> bool
+    ensures { result ≡ every_entry beat_holds (entries beats.entry.width beats.entry.count beats.entry.tag.now) }
 {
-    let beats = Entries {
-        width: GridBeat::SIZE,
-        count,
-    };
-    let mut k: u32 = 0;
-    while k < count {
-        if !bar_holds(number::u16_be_at(beats.entry(tag, k), 0x00)) {
-            return false;
-        }
-        k += 1;
-    }
-    true
+    (0..beats.count).all(|k| bar_holds(number::u16_be_at(beats.entry(k), 0x00)))
 }
 
-// The number of beats in this section.
-fn beats_in(tag: &[u8]) -> Result<u32, AnlzRefusal>
-    ensures { anlz_answer_of result ≡ and_then (grid_in tag.now) counted }
+// The beats of this section.
+#[tactic(auto, unfolding(crate::specs::Grid::grid_in))]
+fn grid_in(tag: &[u8]) -> Result<Entries, AnlzRefusal>
+    ensures { anlz_answer_as beats_of result ≡ grid_in tag.now }
 {
     let count = number::u32_be_at(tag, 0x14);
     let beats = Entries {
+        tag,
         width: GridBeat::SIZE,
         count,
     };
-    if !beats.fill(tag) {
+    if !beats.fill() {
         return Err(AnlzRefusal::GridLength);
     }
-    if !bars_hold(tag, count) {
+    if !bars_hold(beats) {
         return Err(AnlzRefusal::BarPosition);
     }
-    Ok(count)
+    Ok(beats)
 }
 
-// Beat k of this section.
-fn beat_in(tag: &[u8], k: u64) -> Result<GridBeat, AnlzRefusal>
-    ensures { anlz_answer_of result ≡ and_then (grid_in tag.now) (element_at k) }
-{
-    let count = beats_in(tag)?;
-    if (count as u64) <= k {
-        return Err(AnlzRefusal::Absent);
-    }
-    let beats = Entries {
-        width: GridBeat::SIZE,
-        count,
-    };
-    Ok(GridBeat::read(beats.entry(tag, k as u32)))
-}
-
-// The section that holds the grid.
-fn grid_section(file: &[u8]) -> Result<Section, AnlzRefusal>
-    ensures { anlz_answer_of result ≡ grid_section file.now }
+// The beats in the grid of an ANLZ file, which is its first section PQTZ.
+#[tactic(auto, unfolding(crate::specs::Grid::grid_section, crate::specs::Grid::grid))]
+fn grid(file: &[u8]) -> Result<Entries, AnlzRefusal>
+    ensures { anlz_answer_as beats_of result ≡ grid file.now }
 {
     let first = anlz::first_section(file, PQTZ)?;
-    first.ok_or(AnlzRefusal::NoGrid)
+    let section = first.ok_or(AnlzRefusal::NoGrid)?;
+    grid_in(section.bytes(file))
 }
 
 // The number of beats in the grid of an ANLZ file.
+#[tactic(auto, using(entries::proofs::EntryElement::made_counted), unfolding(crate::specs::Questions::ask_beats))]
 pub fn beats(file: &[u8]) -> Result<u32, AnlzRefusal>
     ensures { anlz_answer_of result ≡ ask_beats file.now }
 {
-    let section = grid_section(file)?;
-    beats_in(section.bytes(file))
+    let beats = grid(file)?;
+    Ok(beats.count)
 }
 
 // Beat k in the grid of an ANLZ file, from 0.
+#[tactic(auto, using(entries::proofs::EntryElement::made_past, entries::proofs::EntryElement::made_inside), unfolding(crate::specs::Questions::ask_beat))]
 pub fn beat(file: &[u8], k: u64) -> Result<GridBeat, AnlzRefusal>
     ensures { anlz_answer_of result ≡ ask_beat file.now k }
 {
-    let section = grid_section(file)?;
-    beat_in(section.bytes(file), k)
+    let beats = grid(file)?;
+    if (beats.count as u64) <= k {
+        return Err(AnlzRefusal::Absent);
+    }
+    Ok(GridBeat::read(beats.entry(k as u32)))
 }

@@ -3,7 +3,7 @@
 
 ghost use Rattle.std.specs.Prelude.{◌≡◌, [], ◌∷◌};
 ghost use Rattle.anlz.specs.Fault.{anlz_number, anlz_answer_of};
-ghost use Rattle.c_reply.specs.Reply.{reply, reply_to, Replied};
+ghost use Rattle.c_reply.specs.Reply.{Reply, reply, reply_to, Replied};
 ghost use Rattle.c_anlz.specs.Replies.{beats_reply, beat_reply, list_number, cue_reply, wave_reply};
 
 use anlz::AnlzRefusal;
@@ -12,38 +12,37 @@ use c_reply::Code;
 use cue_list::{Cue, CueListType, CuePosition};
 use waveform::WaveEntry;
 
-// The reply to a refusal: its number, and 0 for the value and the entry.
-fn refuse(refusal: AnlzRefusal, res: &mut [u64]) -> u32
-    ensures { Replied (reply (anlz_number refusal) (0 ∷ 0 ∷ [])) result res.old res.new }
-{
-    c_reply::put(u32::from(refusal), &[0, 0], res)
+// An answer about an ANLZ file that C is given as numbers.
+pub trait Answer {
+    ghost reply_of: { Self → Reply };
+
+    // Writes its values to the front of the result, as many as it takes, and returns its code.
+    fn put(self, res: &mut [u64]) -> u32
+        ensures { Replied (reply_of self) result res.old res.new };
 }
 
-// The reply with the number of beats.
-pub fn reply_beats(answer: Result<u32, AnlzRefusal>, res: &mut [u64]) -> u32
-    ensures { Replied (reply_to beats_reply (anlz_answer_of answer)) result res.old res.new }
-{
-    match answer {
-        Ok(n) => c_reply::put(Code::DONE, &[n as u64], res),
-        Err(no_beats) => refuse(no_beats, res),
+// The number of beats.
+impl Answer for u32 {
+    ghost reply_of = { beats_reply };
+
+    fn put(self, res: &mut [u64]) -> u32 {
+        c_reply::put(Code::DONE, &[self as u64], res)
     }
 }
 
-// The reply with a beat.
-pub fn reply_beat(answer: Result<GridBeat, AnlzRefusal>, res: &mut [u64]) -> u32
-    ensures { Replied (reply_to beat_reply (anlz_answer_of answer)) result res.old res.new }
-{
-    match answer {
-        Ok(beat) => c_reply::put(
+impl Answer for GridBeat {
+    ghost reply_of = { beat_reply };
+
+    fn put(self, res: &mut [u64]) -> u32 {
+        c_reply::put(
             Code::DONE,
             &[
-                beat.bar_position as u64,
-                beat.tempo as u64,
-                beat.time as u64,
+                self.bar_position as u64,
+                self.tempo as u64,
+                self.time as u64,
             ],
             res,
-        ),
-        Err(no_beat) => refuse(no_beat, res),
+        )
     }
 }
 
@@ -57,41 +56,48 @@ fn list_number(list: CueListType) -> u64
     }
 }
 
-fn put_cue(cue: Cue, res: &mut [u64]) -> u32
-    ensures { Replied (cue_reply cue) result res.old res.new }
-{
-    let list = list_number(cue.list);
-    let hot_cue = cue.hot_cue as u64;
-    match cue.position {
-        CuePosition::Point { time } => c_reply::put(
-            Code::DONE,
-            &[list, hot_cue, 1, time as u64],
-            res,
-        ),
-        CuePosition::Loop { time, loop_time } => c_reply::put(
-            Code::DONE,
-            &[list, hot_cue, 2, time as u64, loop_time as u64],
-            res,
-        ),
+impl Answer for Cue {
+    ghost reply_of = { cue_reply };
+
+    fn put(self, res: &mut [u64]) -> u32 {
+        let list = list_number(self.list);
+        let hot_cue = self.hot_cue as u64;
+        match self.position {
+            CuePosition::Point { time } => c_reply::put(
+                Code::DONE,
+                &[list, hot_cue, 1, time as u64],
+                res,
+            ),
+            CuePosition::Loop { time, loop_time } => c_reply::put(
+                Code::DONE,
+                &[list, hot_cue, 2, time as u64, loop_time as u64],
+                res,
+            ),
+        }
     }
 }
 
-// The reply with a cue.
-pub fn reply_cue(answer: Result<Cue, AnlzRefusal>, res: &mut [u64]) -> u32
-    ensures { Replied (reply_to cue_reply (anlz_answer_of answer)) result res.old res.new }
-{
-    match answer {
-        Ok(cue) => put_cue(cue, res),
-        Err(no_cue) => refuse(no_cue, res),
+impl Answer for WaveEntry {
+    ghost reply_of = { wave_reply };
+
+    fn put(self, res: &mut [u64]) -> u32 {
+        c_reply::put(Code::DONE, &[self.place as u64, self.width as u64], res)
     }
 }
 
-// The reply with an entry of a waveform.
-pub fn reply_wave(answer: Result<WaveEntry, AnlzRefusal>, res: &mut [u64]) -> u32
-    ensures { Replied (reply_to wave_reply (anlz_answer_of answer)) result res.old res.new }
+// The reply to a refusal: its number, and 0 for the value and the entry.
+fn refuse(refusal: AnlzRefusal, res: &mut [u64]) -> u32
+    ensures { Replied (reply (anlz_number refusal) (0 ∷ 0 ∷ [])) result res.old res.new }
+{
+    c_reply::put(u32::from(refusal), &[0, 0], res)
+}
+
+// The reply with an answer, or to a refusal.
+pub fn reply<T: Answer>(answer: Result<T, AnlzRefusal>, res: &mut [u64]) -> u32
+    ensures { Replied (reply_to T.reply_of (anlz_answer_of answer)) result res.old res.new }
 {
     match answer {
-        Ok(entry) => c_reply::put(Code::DONE, &[entry.place as u64, entry.width as u64], res),
-        Err(no_entry) => refuse(no_entry, res),
+        Ok(answer) => answer.put(res),
+        Err(refusal) => refuse(refusal, res),
     }
 }

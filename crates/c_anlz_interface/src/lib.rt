@@ -13,7 +13,7 @@ ghost use Rattle.c_anlz.specs.Replies.{beats_reply, beat_reply, cue_reply, wave_
 pub extern "C" fn sarvoltig_beats(file: &[u8], res: &mut [u64]) -> u32
     ensures { Replied (reply_to beats_reply (ask_beats file.now)) result res.old res.new }
 {
-    c_anlz::reply_beats(beat_grid::beats(file), res)
+    c_anlz::reply(beat_grid::beats(file), res)
 }
 
 // Asks for beat k in the grid of an ANLZ file.
@@ -21,7 +21,7 @@ pub extern "C" fn sarvoltig_beats(file: &[u8], res: &mut [u64]) -> u32
 pub extern "C" fn sarvoltig_beat(file: &[u8], k: u64, res: &mut [u64]) -> u32
     ensures { Replied (reply_to beat_reply (ask_beat file.now k)) result res.old res.new }
 {
-    c_anlz::reply_beat(beat_grid::beat(file, k), res)
+    c_anlz::reply(beat_grid::beat(file, k), res)
 }
 
 // Asks for cue k of an ANLZ file, counted through all its cue lists.
@@ -29,7 +29,7 @@ pub extern "C" fn sarvoltig_beat(file: &[u8], k: u64, res: &mut [u64]) -> u32
 pub extern "C" fn sarvoltig_cue(file: &[u8], k: u64, res: &mut [u64]) -> u32
     ensures { Replied (reply_to cue_reply (ask_cue file.now k)) result res.old res.new }
 {
-    c_anlz::reply_cue(cue_list::cue_at(file, k), res)
+    c_anlz::reply(cue_list::cue_at(file, k), res)
 }
 
 // Asks for entry k of the waveform of a sort in an ANLZ file.
@@ -37,5 +37,5 @@ pub extern "C" fn sarvoltig_cue(file: &[u8], k: u64, res: &mut [u64]) -> u32
 pub extern "C" fn sarvoltig_wave(file: &[u8], sort: u64, k: u64, res: &mut [u64]) -> u32
     ensures { Replied (reply_to wave_reply (ask_wave file.now sort k)) result res.old res.new }
 {
-    c_anlz::reply_wave(waveform::entry(file, sort, k), res)
+    c_anlz::reply(waveform::entry(file, sort, k), res)
 }

@@ -9,7 +9,7 @@ ghost use Rattle.export.specs.Layout.{ask_layout, ask_bounds};
 ghost use Rattle.c_reply.specs.Reply.{reply_to, Replied};
 ghost use Rattle.c_replies.specs.Replies.{missing_reply, layout_reply, bounds_reply};
 
-use intake::Intake;
+use intake::{Intake, Memory};
 
 // Whether a file of len bytes has a block, and it is held: 1, or 0.
 #[unsafe(no_mangle)]
@@ -37,7 +37,8 @@ pub extern "C" fn sarvoltig_layout(len: u64, image: &[u8], map: &[u64], res: &mu
     ensures { Replied (reply_to layout_reply (ask_layout len (memory image.now map.now))) result
         res.old res.new }
 {
-    c_replies::reply_layout(export::layout(Intake::new(len), image, map), res)
+    let memory = Memory { image, map };
+    c_replies::reply(export::layout(Intake::new(len), memory), res)
 }
 
 // Asks for the first and the last page of a table.
@@ -52,5 +53,6 @@ pub extern "C" fn sarvoltig_bounds(
     ensures { Replied (reply_to bounds_reply (ask_bounds len (memory image.now map.now) table)) result
         res.old res.new }
 {
-    c_replies::reply_bounds(export::bounds(Intake::new(len), image, map, table), res)
+    let memory = Memory { image, map };
+    c_replies::reply(export::bounds(Intake::new(len), memory, table), res)
 }

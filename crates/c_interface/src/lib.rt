@@ -14,7 +14,7 @@ ghost use Rattle.export.specs.FromList.{ask_record_in, ask_text_in};
 ghost use Rattle.c_reply.specs.Reply.{reply_to, Replied};
 ghost use Rattle.c_replies.specs.Replies.{open_reply, deliver_reply, packet_reply, walk_reply, record_reply, text_reply};
 
-use intake::Intake;
+use intake::{Intake, Memory};
 
 // Opens an intake for a file of len bytes.
 #[unsafe(no_mangle)]
@@ -23,7 +23,7 @@ pub extern "C" fn sarvoltig_open(len: u64, image: &[u8], map: &mut [u64], res: &
         res.old res.new }
     ensures map_after { map.new ≡ (opening len image.now map.old).map }
 {
-    c_replies::reply_opened(intake::open(len, image, map), res)
+    c_replies::reply(intake::open(len, image, map), res)
 }
 
 // Delivers a block to an intake of a file of len bytes.
@@ -41,7 +41,7 @@ pub extern "C" fn sarvoltig_deliver(
     ensures memory_after { memory image.new map.new ≡
         (delivery len (memory image.old map.old) block piece.now).memory }
 {
-    c_replies::reply_delivered(
+    c_replies::reply(
         intake::deliver(Intake::new(len), image, map, block, piece),
         res,
     )
@@ -65,7 +65,7 @@ pub extern "C" fn sarvoltig_packet(
     ensures codes_after { codes.new ≡ (packet len (memory image.old map.old)
         blocks.now pieces.now codes.old).results }
 {
-    c_replies::reply_packet(
+    c_replies::reply(
         intake::deliver_packet(Intake::new(len), image, map, blocks, pieces, codes),
         res,
     )
@@ -85,7 +85,8 @@ pub extern "C" fn sarvoltig_rows(
         res.old res.new }
     ensures list_after { list.new ≡ (ask_rows len (memory image.now map.now) table list.old).list }
 {
-    c_replies::reply_walked(export::rows(Intake::new(len), image, map, table, list), res)
+    let memory = Memory { image, map };
+    c_replies::reply(export::rows(Intake::new(len), memory, table, list), res)
 }
 
 // Asks for record k of a table.
@@ -101,8 +102,9 @@ pub extern "C" fn sarvoltig_record(
     ensures { Replied (reply_to record_reply (ask_record len (memory image.now map.now) table k)) result
         res.old res.new }
 {
-    c_replies::reply_record(
-        export::record(Intake::new(len), image, map, table, k as usize),
+    let memory = Memory { image, map };
+    c_replies::reply(
+        export::record(Intake::new(len), memory, table, k as usize),
         res,
     )
 }
@@ -121,8 +123,9 @@ pub extern "C" fn sarvoltig_record_in(
     ensures { Replied (reply_to record_reply (ask_record_in len (memory image.now map.now) table list.now i)) result
         res.old res.new }
 {
-    c_replies::reply_record(
-        export::record_in(Intake::new(len), image, map, table, list, i as usize),
+    let memory = Memory { image, map };
+    c_replies::reply(
+        export::record_in(Intake::new(len), memory, table, list, i as usize),
         res,
     )
 }
@@ -141,15 +144,9 @@ pub extern "C" fn sarvoltig_text(
     ensures { Replied (reply_to text_reply (ask_text len (memory image.now map.now) table k slot)) result
         res.old res.new }
 {
-    c_replies::reply_text(
-        export::text(
-            Intake::new(len),
-            image,
-            map,
-            table,
-            k as usize,
-            slot as usize,
-        ),
+    let memory = Memory { image, map };
+    c_replies::reply(
+        export::text(Intake::new(len), memory, table, k as usize, slot as usize),
         res,
     )
 }
@@ -169,11 +166,11 @@ pub extern "C" fn sarvoltig_text_in(
     ensures { Replied (reply_to text_reply (ask_text_in len (memory image.now map.now) table list.now i slot)) result
         res.old res.new }
 {
-    c_replies::reply_text(
+    let memory = Memory { image, map };
+    c_replies::reply(
         export::text_in(
             Intake::new(len),
-            image,
-            map,
+            memory,
             table,
             list,
             i as usize,

@@ -58,8 +58,14 @@ abbrev pub missing_reply : Option ℕ → Reply
 missing_reply (some block) = reply code.done (block ∷ [])
 missing_reply none = reply code.none []
 
+abbrev pub layout_values : FileLayout → List ℕ
+layout_values l = l.len_page ∷ l.page_count ∷ []
+
 abbrev pub layout_reply : row.Found FileLayout → Reply
-layout_reply answer = found_reply (λ (l : FileLayout). l.len_page ∷ l.page_count ∷ []) answer
+layout_reply answer = found_reply layout_values answer
+
+abbrev pub bounds_values : TableBounds → List ℕ
+bounds_values b = b.first_page ∷ b.last_page ∷ []
 
 abbrev pub bounds_reply : row.Found TableBounds → Reply
-bounds_reply answer = found_reply (λ (b : TableBounds). b.first_page ∷ b.last_page ∷ []) answer
+bounds_reply answer = found_reply bounds_values answer

@@ -1,5 +1,5 @@
 -- Rules 14.23 and 14.24: searching the lists one after the other: the answer is that of the search so far and of the lists left.
-use mathlib.Core.Path.{◌≡◌, refl, sym, ◌∙◌}
+use mathlib.Core.Path.{◌≡◌, refl, ◌∙◌}
 use mathlib.Core.Bool.{not, true, false}
 use mathlib.Core.List.{List, [], ◌∷◌}
 use Prim.Native.Nat.{ℕ, ◌-◌, ◌<◌, ◌≤◌}
@@ -17,7 +17,7 @@ use Rattle.anlz.specs.Section.{tag_of}
 use Rattle.anlz.specs.Sections.{first_place, sections}
 use Rattle.anlz.specs.All.{all_with}
 use Rattle.anlz.specs.Element.{element_at}
-use Rattle.anlz.proofs.FileStart.{made_start, sections_refused}
+use Rattle.anlz.proofs.FileStart.{sections_refused}
 use Rattle.anlz.proofs.ElementAt.{element_front, element_behind}
 use Rattle.entries.specs.Entries.{entry}
 use Rattle.entries.proofs.EntryElement.{made_counted, made_inside}
@@ -27,7 +27,7 @@ use Rattle.cue_list.specs.declared.Search.TheVariants as search
 use Rattle.cue_list.specs.Cue.{cue_size, cue_of}
 use Rattle.cue_list.specs.CueList.{pcob, len_cues, list_type_of, list_holds, cues_in, lists_hold, all_cues}
 use Rattle.cue_list.specs.Questions.{cue_lists, cues_of, cues, ask_cue}
-use Rattle.cue_list.specs.Private.{searched_good, searched, searched_section, ended, cue_from}
+use Rattle.cue_list.specs.Private.{searched_good, searched, searched_section, ended}
 
 -- the cues of a list: their number, and cue k
 module _ (tag : Bytes) where
@@ -98,11 +98,11 @@ among_more file s section e all =
     (λ q. rw (e, q) (answer_more (tag_of file section) (cue_lists file all) s))
     (λ q. rw (e, q))
 
--- where the sections start, and where the file header is refused
+-- where nothing is passed over yet, and where the file header is refused
 module _ (file : Bytes) (k : ℕ) where
-  pub cue_start : {place : ℕ} → given place ≡ first_place file → cue_from file place k ≡ ask_cue file k
-  unfolding cue_from ask_cue cues
-  cue_start e = made_start file _ e ∙ sym (then_then (sections file) _ _)
+  pub among_start : ask_cue file k ≡ and_then (sections file) (answer_among file (search.Left k))
+  unfolding ask_cue cues answer_among
+  among_start = then_then (sections file) _ _
 
   pub cue_refused : {f : Fault} → refused f ≡ first_place file → refused f ≡ ask_cue file k
   unfolding ask_cue cues

@@ -1,19 +1,16 @@
 -- Definitions that only the contracts of private functions and the proofs cite.
-use Rattle.std.specs.Prelude.{cond, List, ℕ, ◌-◌, leb, eqb}
+use Rattle.std.specs.Prelude.{cond, ℕ, ◌-◌, leb, eqb}
 use Rattle.lists.specs.Alias.{Bytes}
 use Rattle.refusal.specs.Fault.{fault}
-use Rattle.refusal.specs.Answer.{Answer, given, refused, and_then}
+use Rattle.refusal.specs.Answer.{Answer, given, refused}
 use Rattle.anlz.specs.declared.Section.{Section}
 use Rattle.anlz.specs.Section.{tag_of}
-use Rattle.anlz.specs.Element.{element_at}
-use Rattle.anlz.specs.Private.{made_from}
 use Rattle.entries.specs.Entries.{entry}
 use Rattle.cue_list.specs.declared.Cue.{Cue}
 use Rattle.cue_list.specs.declared.Search.{Search}
 use Rattle.cue_list.specs.declared.Search.TheVariants as search
 use Rattle.cue_list.specs.Cue.{cue_size, cue_of}
 use Rattle.cue_list.specs.CueList.{pcob, len_cues, list_type_of, list_holds}
-use Rattle.cue_list.specs.Questions.{cue_lists, cues_of}
 
 -- the search after one list more, a good one, where k cues are to be passed over
 abbrev pub passed : (k : ℕ) (tag : Bytes) → Search
@@ -38,7 +35,3 @@ abbrev pub ended : Search → Answer Cue
 ended (search.Left k) = refused (fault 18 0)
 ended (search.Found cue) = given cue
 ended search.BadList = refused (fault 26 0)
-
--- cue k of the lists from a place in the file on
-unfoldable pub cue_from : (file : Bytes) (place k : ℕ) → Answer Cue
-cue_from file place k = made_from file place (λ (all : List Section). and_then (cues_of (cue_lists file all)) (element_at k))

@@ -1,16 +1,16 @@
 // The cues of an ANLZ file: one cue, counted through all its cue lists.
 #![tactic(auto)]
 
-ghost use Rattle.std.specs.Prelude.{◌≡◌, ◌≤◌, length};
+ghost use Rattle.std.specs.Prelude.{◌≡◌};
 ghost use Rattle.anlz.specs.Fault.{anlz_answer_of};
 ghost use Rattle.entries.specs.Entries.{entries};
 ghost use Rattle.entries.specs.Every.{every_entry};
-ghost use Rattle.cue_list.specs.Cue.{cue_size, cue_holds, position_of, cue_of};
+ghost use Rattle.cue_list.specs.Cue.{cue_holds, position_of, cue_of};
 ghost use Rattle.cue_list.specs.CueList.{len_cues, list_type_of, list_holds};
 ghost use Rattle.cue_list.specs.Questions.{ask_cue};
-ghost use Rattle.cue_list.specs.Private.{passed, searched, searched_section, ended, cue_from};
+ghost use Rattle.cue_list.specs.Private.{passed, searched, searched_section, ended};
 
-use anlz::{AnlzRefusal, Cursor, Section};
+use anlz::{AnlzRefusal, Section, Sections};
 use entries::Entries;
 
 // The code of a section that holds a cue list.
@@ -51,6 +51,7 @@ enum Search {
 
 impl CueListType {
     // The type of the list in this section.
+    #[tactic(auto, unfolding(crate::specs::CueList::list_type_of))]
     fn read(tag: &[u8]) -> CueListType
         ensures { result ≡ list_type_of tag.now }
     {
@@ -64,6 +65,7 @@ impl CueListType {
 
 impl CuePosition {
     // Where the cue of this entry stands.
+    #[tactic(auto, unfolding(crate::specs::Cue::position_of))]
     fn read(entry: &[u8]) -> CuePosition
         ensures { result ≡ position_of entry.now }
     {
@@ -95,17 +97,14 @@ impl Cue {
     }
 }
 
+#[tactic(auto, unfolding(crate::specs::Cue::cue_holds))]
 fn cue_holds(entry: &[u8]) -> bool
     ensures { result ≡ cue_holds entry.now }
 {
-    if number::u32_be_at(entry, 0x00) != PCPT {
-        return false;
-    }
-    if number::u32_be_at(entry, 0x08) != Cue::SIZE {
-        return false;
-    }
     let kind = number::byte_at(entry, 0x1c);
-    if kind == 1 { true } else { kind == 2 }
+    number::u32_be_at(entry, 0x00) == PCPT
+        && number::u32_be_at(entry, 0x08) == Cue::SIZE
+        && matches!(kind, 1 | 2)
 }
 
 // The number of cues in this list.
@@ -115,40 +114,23 @@ fn len_cues(tag: &[u8]) -> u32
     number::u16_be_at(tag, 0x12) as u32
 }
 
-// Whether each of so many entries is a cue.
-fn cues_hold(tag: &[u8], count: u32) -> bool
-    ensures { result ≡ every_entry cue_holds (entries cue_size count tag.now) }
+// Whether each of these entries is a cue.
+fn cues_hold(cues: Entries) -> bool
+    ensures { result ≡ every_entry cue_holds (entries cues.entry.width cues.entry.count cues.entry.tag.now) }
 {
-    let cues = Entries {
-        width: Cue::SIZE,
-        count,
-    };
-    let mut k: u32 = 0;
-    while k < count {
-        if !cue_holds(cues.entry(tag, k)) {
-            return false;
-        }
-        k += 1;
-    }
-    true
+    (0..cues.count).all(|k| cue_holds(cues.entry(k)))
 }
 
+#[tactic(auto, unfolding(crate::specs::CueList::list_holds))]
 fn list_holds(tag: &[u8]) -> bool
     ensures { result ≡ list_holds tag.now }
 {
-    if 1 < number::u32_be_at(tag, 0x0c) {
-        return false;
-    }
-    let count = len_cues(tag);
     let cues = Entries {
+        tag,
         width: Cue::SIZE,
-        count,
+        count: len_cues(tag),
     };
-    if cues.fill(tag) {
-        cues_hold(tag, count)
-    } else {
-        false
-    }
+    number::u32_be_at(tag, 0x0c) <= 1 && cues.fill() && cues_hold(cues)
 }
 
 // The search after one list more, a good one, where k cues are to be passed over.
@@ -160,14 +142,16 @@ fn pass(k: u64, tag: &[u8]) -> Search
         return Search::Left(k - (count as u64));
     }
     let cues = Entries {
+        tag,
         width: Cue::SIZE,
         count,
     };
     let list = CueListType::read(tag);
-    Search::Found(Cue::read(list, cues.entry(tag, k as u32)))
+    Search::Found(Cue::read(list, cues.entry(k as u32)))
 }
 
 // The search after one list more.
+#[tactic(auto, unfolding(crate::specs::Private::searched))]
 fn search_list(search: Search, tag: &[u8]) -> Search
     ensures { result ≡ searched search tag.now }
 {
@@ -176,8 +160,7 @@ fn search_list(search: Search, tag: &[u8]) -> Search
     }
     match search {
         Search::Left(k) => pass(k, tag),
-        Search::Found(cue) => Search::Found(cue),
-        Search::BadList => Search::BadList,
+        known => known,
     }
 }
 
@@ -193,6 +176,7 @@ fn end(search: Search) -> Result<Cue, AnlzRefusal>
 }
 
 // The search after one section more.
+#[tactic(auto, unfolding(crate::specs::Private::searched_section))]
 fn search_section(search: Search, file: &[u8], section: Section) -> Search
     ensures { result ≡ searched_section search file.now section }
 {
@@ -203,32 +187,14 @@ fn search_section(search: Search, file: &[u8], section: Section) -> Search
     }
 }
 
-// Cue k of the lists from a place in the file on.
-fn cue_from(place: usize, file: &[u8], k: u64) -> Result<Cue, AnlzRefusal>
-    requires { place ≤ length file.now }
-    ensures { anlz_answer_of result ≡ cue_from file.now place k }
-{
-    let mut at = place;
-    let mut search = Search::Left(k);
-    while at < file.len() {
-        let cursor = Cursor { place: at };
-        match cursor.step(file)? {
-            None => {
-                return end(search);
-            }
-            Some(section) => {
-                search = search_section(search, file, section);
-                at = section.end;
-            }
-        }
-    }
-    end(search)
-}
-
 // Cue k of an ANLZ file, from 0, counted through all its cue lists. Every list is judged, also behind the one with cue k.
 pub fn cue_at(file: &[u8], k: u64) -> Result<Cue, AnlzRefusal>
     ensures { anlz_answer_of result ≡ ask_cue file.now k }
 {
-    let cursor = Cursor::start(file)?;
-    cue_from(cursor.place, file, k)
+    let mut search = Search::Left(k);
+    for next in Sections::of(file)? {
+        let section = next?;
+        search = search_section(search, file, section);
+    }
+    end(search)
 }

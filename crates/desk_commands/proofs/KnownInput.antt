@@ -25,8 +25,7 @@ use Rattle.lists.specs.Alias.{Bytes, Words, Places}
 use Rattle.desk_steps.specs.Command.{Command, Input, whole, unknown, cut, body_size, decoded}
 use Rattle.desk_steps.specs.State.{State, state}
 use Rattle.desk_steps.specs.Step.{step}
-use Rattle.desk_commands.specs.declared.After.{After}
-use Rattle.desk_commands.specs.declared.After.TheVariants.{Next, Stop}
+use Rattle.intake.specs.declared.Intake.{Intake}
 use Rattle.desk_commands.specs.Run.{command_bytes, after_bytes}
 use Rattle.desk_commands.specs.Reading.{then_later, after_some, after_reading, RanAll}
 use Rattle.desk_commands.specs.Private.{Follows, Leads, LeadsTo, Turned}
@@ -92,18 +91,18 @@ turn_ends s (Some xs) None n kinds l p end = absurd p
 turn_ends s (Some xs) (Some ys) zero kinds l p end = subst (λ z. after_reading s z ≡ s) (sym (p ∙ end)) (reads_nothing s)
 turn_ends s (Some xs) (Some ys) (suc n) kinds l p end = absurd (omega (arith, l))
 
-module _ (s now : State) (after : After) (kind : ℕ) (body : Bytes) (e : now ≡ after_bytes s (command_bytes kind body)) where
+module _ (s now : State) (after : Option Intake) (kind : ℕ) (body : Bytes) (e : now ≡ after_bytes s (command_bytes kind body)) where
   turn_reads : (ys zs : Bytes) → Follows after (decoded kind body) → take (body_size kind) ys ≡ body → drop (body_size kind) ys ≡ zs
       → Turned after s now (Some (kind ∷ ys)) (Some zs)
   turn_reads ys zs f p q = by after f
     where
-      by : (x : After) → Follows x (decoded kind body) → Turned x s now (Some (kind ∷ ys)) (Some zs)
-      by (Next intake) (command, w) =
+      by : (x : Option Intake) → Follows x (decoded kind body) → Turned x s now (Some (kind ∷ ys)) (Some zs)
+      by (Some intake) (command, w) =
           let now_is : now ≡ (step s command).after = rw w at e in (
             omega (arith, ap length q, length-drop (body_size kind) ys),
             reads_whole s kind ys command (rw p w) ∙ rw (q, now_is),
           )
-      by Stop g =
+      by None g =
           ⊎_elim
           (λ u. reads_unknown s kind ys (rw p u) ∙ sym (rw u at e))
           (λ u. reads_cut s kind ys (rw p u) ∙ sym (rw u at e))
@@ -113,9 +112,9 @@ module _ (s now : State) (after : After) (kind : ℕ) (body : Bytes) (e : now �
       → length body ≤ body_size kind → (length body < body_size kind → IsAtEnd c) → Follows after (decoded kind body) → Turned after s now a c
   turn_follows None b c kinds k p q few last f = by after
     where
-      by : (x : After) → Turned x s now None c
-      by (Next intake) = tt
-      by Stop = tt
+      by : (x : Option Intake) → Turned x s now None c
+      by (Some intake) = tt
+      by None = tt
   turn_follows (Some xs) None c kinds k p q few last f = absurd p
   turn_follows (Some xs) (Some ys) None kinds k p q few last f = absurd q
   turn_follows (Some xs) (Some ys) (Some zs) kinds k p q few last f =

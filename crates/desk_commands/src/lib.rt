@@ -10,76 +10,32 @@ ghost use Rattle.desk_commands.specs.Run.{Reached, Ran, command_bytes, after_byt
 ghost use Rattle.desk_commands.specs.Reading.{RanAll};
 ghost use Rattle.desk_commands.specs.Private.{len_next, Left, LeftAfter, Follows, Turned, Fills};
 
-use desk_steps::{Command, Decoded, Reply};
+use desk_steps::{Command, Reply};
 use intake::Intake;
+use refusal::Refusal;
 use std::io;
 use std::io::{ErrorKind, Read, Write};
 
-// What follows a command: the intake that the next one takes, or the end.
-#[derive(Drop)]
-enum After {
-    Next(Intake),
-    Stop,
-}
-
-fn say<W: Write>(out: &mut W, word: &str, n: u64) -> io::Result<()> {
-    write!(out, "{word}{n}")
-}
-
-fn say_line<W: Write>(out: &mut W, word: &str, n: u64) -> io::Result<()> {
-    writeln!(out, "{word}{n}")
-}
-
-fn wide(x: u32) -> u64 {
-    x as u64
-}
-
-fn say_row<W: Write>(out: &mut W, list: &[u32], i: usize) -> io::Result<()> {
-    match list.get(i) {
-        Some(row) => say_line(out, "row ", wide(*row)),
-        None => Ok(()),
-    }
-}
-
 fn say_rows<W: Write>(out: &mut W, list: &[u32], rows: usize) -> io::Result<()> {
-    for i in 0..rows {
-        say_row(out, list, i)?;
+    for row in list.iter().take(rows) {
+        writeln!(out, "row {row}")?;
     }
     Ok(())
 }
 
-// The last numbers of an answer's line, and its rows.
-fn say_found<W: Write>(out: &mut W, list: &[u32], rows: usize, pages: u64) -> io::Result<()> {
-    say(out, " rows ", rows as u64)?;
-    say_line(out, " pages ", pages)?;
-    say_rows(out, list, rows)
-}
-
-fn say_reply<W: Write>(out: &mut W, reply: Reply, list: &[u32]) -> io::Result<()> {
+// Writes an answer's line, and the rows behind it.
+fn say_reply<W: Write>(out: &mut W, reply: Result<Reply, Refusal>, list: &[u32]) -> io::Result<()> {
     match reply {
-        Reply::Opened(blocks) => say_line(out, "open ", blocks),
-        Reply::New(held) => say_line(out, "new ", held),
-        Reply::Same(held) => say_line(out, "same ", held),
-        Reply::Done { rows, pages } => {
-            write!(out, "done")?;
-            say_found(out, list, rows, pages)
+        Ok(found) => {
+            writeln!(out, "{found}")?;
+            say_rows(out, list, found.rows())
         }
-        Reply::Wait { page, rows, pages } => {
-            say(out, "wait page ", page as u64)?;
-            say_found(out, list, rows, pages)
-        }
-        Reply::Refused(fault) => say_line(out, "refused ", fault.number as u64),
+        Err(refusal) => writeln!(out, "{refusal}"),
     }
 }
 
-fn stop<W: Write>(out: &mut W, word: &str) -> io::Result<After>
-    ensures { IfOk result (λ after. after ≡ After.Stop) }
-{
-    write!(out, "{word}")?;
-    Ok(After::Stop)
-}
-
-// Runs the command that a kind and the bytes of its body say, and answers it. An error in answering comes after the command.
+// Runs the command that a kind and the bytes of its body say, and answers it. What is no command ends the run. An error in
+// answering comes after the command.
 fn answer<W: Write>(
     intake: Intake,
     out: &mut W,
@@ -88,22 +44,23 @@ fn answer<W: Write>(
     image: &mut [u8],
     map: &mut [u64],
     list: &mut [u32],
-) -> io::Result<After>
-    ensures ok { IfOk result (λ after. state (len_next intake.len after) image.new map.new list.new
+) -> io::Result<Option<Intake>>
+    ensures ok { IfOk result (λ next. state (len_next intake.len next) image.new map.new list.new
         ≡ after_bytes (state intake.len image.old map.old list.old) (command_bytes kind body.now)) }
     ensures err { OnErr result (LeftAfter (state intake.len image.old map.old list.old) (command_bytes kind body.now)
         image.new map.new list.new) }
-    ensures next { IfOk result (λ after. Follows after (decoded kind body.now)) }
+    ensures next { IfOk result (λ next. Follows next (decoded kind body.now)) }
 {
     match desk_steps::decode(kind, body) {
-        Decoded::Whole(command) => {
+        Ok(command) => {
             let stepped = desk_steps::step(intake, command, body, image, map, list);
-            let next = stepped.intake;
             say_reply(out, stepped.reply, list)?;
-            Ok(After::Next(next))
+            Ok(Some(stepped.intake))
         }
-        Decoded::Unknown => stop(out, "kind\n"),
-        Decoded::Cut => stop(out, "cut\n"),
+        Err(error) => {
+            writeln!(out, "{error}")?;
+            Ok(None)
+        }
     }
 }
 
@@ -150,19 +107,19 @@ fn turn<R: Read, W: Write>(
     image: &mut [u8],
     map: &mut [u64],
     list: &mut [u32],
-) -> io::Result<After>
-    ensures ok { IfOk result (λ after. Reached
+) -> io::Result<Option<Intake>>
+    ensures ok { IfOk result (λ next. Reached
         (state intake.len image.old map.old list.old)
-        (state (len_next intake.len after) image.new map.new list.new)) }
+        (state (len_next intake.len next) image.new map.new list.new)) }
     ensures err { OnErr result (Left (state intake.len image.old map.old list.old) image.new map.new list.new) }
-    ensures read { IfOk result (λ after. Turned after
+    ensures read { IfOk result (λ next. Turned next
         (state intake.len image.old map.old list.old)
-        (state (len_next intake.len after) image.new map.new list.new)
+        (state (len_next intake.len next) image.new map.new list.new)
         (R.remaining input.old) (R.remaining input.new)) }
 {
     let mut kind = [0u8; 1];
     if read_full(input, &mut kind)? < 1 {
-        return Ok(After::Stop);
+        return Ok(None);
     }
     let mut body = [0u8; Command::LONGEST];
     let count = read_body(input, kind[0], &mut body)?;
@@ -185,12 +142,8 @@ pub fn run<R: Read, W: Write>(
     let mut intake = Intake::new(0);
     for _ in 0..u64::MAX {
         match turn(intake, input, out, image, map, list)? {
-            After::Next(next) => {
-                intake = next;
-            }
-            After::Stop => {
-                return Ok(());
-            }
+            Some(next) => intake = next,
+            None => return Ok(()),
         }
     }
     Ok(())

@@ -1,13 +1,13 @@
 -- Rules 9.5 and 9.9: the desk program's commands, and what a kind byte and the bytes behind it say.
 -- Rests on the numbers of rule 1.2 and the size of a block.
-use Rattle.std.specs.Prelude.{cond, ℕ, ◌+◌, length, drop, eqb, ltb}
+use Rattle.std.specs.Prelude.{cond, ℕ, ◌+◌, length, drop, eqb, ltb, Result, Ok, Err}
 use Rattle.lists.specs.Alias.{Bytes}
 use Rattle.number.specs.Number.{byte_at, le32}
 use Rattle.format.specs.Size.{block_size}
 use Rattle.desk_steps.specs.declared.Command.{Command as CodeCommand}
 use Rattle.desk_steps.specs.declared.Command.TheVariants.{Open, Deliver, Ask}
-use Rattle.desk_steps.specs.declared.Decoded.{Decoded}
-use Rattle.desk_steps.specs.declared.Decoded.TheVariants.{Whole, Unknown, Cut}
+use Rattle.desk_steps.specs.declared.DecodeError.{DecodeError}
+use Rattle.desk_steps.specs.declared.DecodeError.TheVariants.{Unknown, Cut}
 
 pub data Command : Type 0 where
   open_file : (len : ℕ) → Command
@@ -47,7 +47,7 @@ command_of (Open len) body = open_file len
 command_of (Deliver block) body = deliver_block block (drop number_size body)
 command_of (Ask number) body = ask_table number
 
-abbrev pub decoded_of : Decoded → Bytes → Input
-decoded_of (Whole command) body = whole (command_of command body)
-decoded_of Unknown body = unknown
-decoded_of Cut body = cut
+abbrev pub decoded_of : Result CodeCommand DecodeError → Bytes → Input
+decoded_of (Ok command) body = whole (command_of command body)
+decoded_of (Err Unknown) body = unknown
+decoded_of (Err Cut) body = cut

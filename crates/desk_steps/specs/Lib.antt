@@ -1,3 +1,4 @@
 pub mod Command
 pub mod State
 pub mod Step
+pub mod Text

@@ -1,18 +1,22 @@
 -- Rules 9.5, 9.7 and 9.8: what each command answers, and the state after it.
 -- Rests on the definitions of an opening, a delivery and the question for all rows, which the library's contracts cite.
-use Rattle.std.specs.Prelude.{ℕ}
+use Rattle.std.specs.Prelude.{◌≡◌, ℕ, Result}
 use Rattle.lists.specs.Alias.{Bytes, Words, Places}
-use Rattle.refusal.specs.Answer.{Answer, given, refused}
+use Rattle.refusal.specs.Answer.{Answer, given, refused, answer_as}
+use Rattle.refusal.specs.declared.Refusal.{Refusal}
 use Rattle.intake.specs.Memory.{Memory, memory}
 use Rattle.intake.specs.Open.{OpenedFile, Opening, opening}
 use Rattle.intake.specs.Open as file
-use Rattle.intake.specs.Deliver.{Taken, taken, Outcome, delivery}
+use Rattle.intake.specs.Deliver.{Taken, taken, taken_of, Outcome, delivery}
 use Rattle.intake.specs.Deliver as verdict
+use Rattle.intake.specs.declared.Delivered.{Delivered}
 use Rattle.chain.specs.Walk.{Walk}
 use Rattle.chain.specs.Walk as walk
+use Rattle.chain.specs.Tally.{progress_of}
+use Rattle.chain.specs.declared.Walked.{Walked}
 use Rattle.export.specs.Rows.{RowsOutcome, ask_rows}
 use Rattle.desk_steps.specs.declared.Reply.{Reply}
-use Rattle.desk_steps.specs.declared.Reply.TheVariants.{Opened, New, Same, Done, Wait, Refused}
+use Rattle.desk_steps.specs.declared.Reply.TheVariants.{Opened, New, Same, Done, Wait}
 use Rattle.desk_steps.specs.declared.Stepped.{Stepped}
 use Rattle.desk_steps.specs.Command.{Command, open_file, deliver_block, ask_table}
 use Rattle.desk_steps.specs.State.{State, state}
@@ -24,14 +28,24 @@ pub data Line : Type 0 where
   done : (rows pages : ℕ) → Line
   wait : (page rows pages : ℕ) → Line
 
--- the answer for each case of the code's enum
-abbrev pub reply_of : Reply → Answer Line
-reply_of (Opened blocks) = given (opened blocks)
-reply_of (New held) = given (new held)
-reply_of (Same held) = given (same held)
-reply_of (Done rows pages) = given (done rows pages)
-reply_of (Wait page rows pages) = given (wait page rows pages)
-reply_of (Refused fault) = refused fault
+-- the rows that it counts
+abbrev pub rows_in : Line → ℕ
+rows_in (opened blocks) = 0
+rows_in (new held) = 0
+rows_in (same held) = 0
+rows_in (done rows pages) = rows
+rows_in (wait page rows pages) = rows
+
+-- the line for each case of the code's enum
+abbrev pub line_of : Reply → Line
+line_of (Opened blocks) = opened blocks
+line_of (New held) = new held
+line_of (Same held) = same held
+line_of (Done rows pages) = done rows pages
+line_of (Wait page rows pages) = wait page rows pages
+
+abbrev pub reply_of : Result Reply Refusal → Answer Line
+reply_of r = answer_as line_of r
 
 abbrev pub open_line : Answer OpenedFile → Answer Line
 open_line (given (file.opened len blocks)) = given (opened blocks)
@@ -46,6 +60,13 @@ abbrev pub rows_line : Walk ℕ → Answer Line
 rows_line (given (walk.full rows pages)) = given (done rows pages)
 rows_line (given (walk.waiting page rows pages)) = given (wait page rows pages)
 rows_line (refused f) = refused f
+
+-- what the conversions of a delivery's and of a walk's good answer give
+abbrev pub DeliveredLine : Delivered → Reply → Type 0
+DeliveredLine delivered reply = given (line_of reply) ≡ deliver_line (given (taken_of delivered))
+
+abbrev pub WalkedLine : Walked → Reply → Type 0
+WalkedLine walked reply = given (line_of reply) ≡ rows_line (given (progress_of walked))
 
 -- the answer, and the state afterwards
 pub record StepOutcome : Type 0 where

@@ -1,48 +1,113 @@
 // The desk program's commands: what the bytes of a command say, and what each command does and answers.
 #![tactic(auto)]
 
-ghost use Rattle.std.specs.Prelude.{◌≡◌, drop};
+ghost use Rattle.std.specs.Prelude.{◌≡◌, Some, drop};
 ghost use Rattle.lists.specs.Alias.{Places};
 ghost use Rattle.desk_steps.specs.Command.{open_file, deliver_block, ask_table, number_size, body_size, decoded, command_of, decoded_of};
 ghost use Rattle.desk_steps.specs.State.{state};
-ghost use Rattle.desk_steps.specs.Step.{step_outcome, reply_of, step, stepped_of};
+ghost use Rattle.desk_steps.specs.Step.{rows_in, line_of, step_outcome, reply_of, step, stepped_of, DeliveredLine, WalkedLine};
+ghost use Rattle.desk_steps.specs.Text.{reply_text, error_text};
 
 use chain::Walked;
 use format::Block;
-use intake::{Delivered, Intake, Opened};
-use refusal::Fault;
+use intake::{Delivered, Intake, Memory};
+use refusal::Refusal;
+use std::error::Error;
+use std::fmt;
 
 // A command. A delivery's piece stands in the command's body, behind the block's number.
-#[derive(Drop)]
+#[derive(Clone, Copy, Debug, PartialEq, Eq)]
 pub enum Command {
     Open(u64),
     Deliver(u64),
     Ask(u32),
 }
 
-// What the bytes of a command say: one of the commands, a kind that there is not, or a body that is too short.
-#[derive(Drop)]
-pub enum Decoded {
-    Whole(Command),
+// Why bytes are no command: a kind that there is not, or a body that is too short.
+#[derive(Clone, Copy, Debug, PartialEq, Eq)]
+pub enum DecodeError {
     Unknown,
     Cut,
 }
 
-// A command's answer, by the numbers of its line.
-#[derive(Drop)]
+impl fmt::Display for DecodeError {
+    ghost output = { λ error. Some (error_text error) };
+
+    fn fmt<W: fmt::Write>(&self, f: &mut fmt::Formatter<W>) -> fmt::Result {
+        match *self {
+            DecodeError::Unknown => write!(f, "kind"),
+            DecodeError::Cut => write!(f, "cut"),
+        }
+    }
+}
+
+impl Error for DecodeError {}
+
+// What a command answers where it is not refused, by the numbers of its line.
+#[derive(Clone, Copy, Debug, PartialEq, Eq)]
 pub enum Reply {
     Opened(u64),
     New(u64),
     Same(u64),
     Done { rows: usize, pages: u64 },
     Wait { page: u32, rows: usize, pages: u64 },
-    Refused(Fault),
+}
+
+impl Reply {
+    // How many rows it counts.
+    pub fn rows(self) -> usize
+        ensures { result ≡ rows_in (line_of self) }
+    {
+        match self {
+            Reply::Opened(_) | Reply::New(_) | Reply::Same(_) => 0,
+            Reply::Done { rows, .. } => rows,
+            Reply::Wait { rows, .. } => rows,
+        }
+    }
+}
+
+impl From<Delivered> for Reply {
+    ghost from_gives = { DeliveredLine };
+
+    fn from(delivered: Delivered) -> Self {
+        match delivered {
+            Delivered::New(held) => Reply::New(held),
+            Delivered::Same(held) => Reply::Same(held),
+        }
+    }
+}
+
+impl From<Walked> for Reply {
+    ghost from_gives = { WalkedLine };
+
+    fn from(walked: Walked) -> Self {
+        match walked {
+            Walked::Full { rows, pages } => Reply::Done { rows, pages },
+            Walked::Waiting { page, rows, pages } => Reply::Wait { page, rows, pages },
+        }
+    }
+}
+
+impl fmt::Display for Reply {
+    ghost output = { λ reply. Some (reply_text reply) };
+
+    fn fmt<W: fmt::Write>(&self, f: &mut fmt::Formatter<W>) -> fmt::Result {
+        match *self {
+            Reply::Opened(blocks) => write!(f, "open {blocks}"),
+            Reply::New(held) => write!(f, "new {held}"),
+            Reply::Same(held) => write!(f, "same {held}"),
+            Reply::Done { rows, pages } => write!(f, "done rows {rows} pages {pages}"),
+            Reply::Wait { page, rows, pages } => {
+                write!(f, "wait page {page} rows {rows} pages {pages}")
+            }
+        }
+    }
 }
 
 // A command's answer, and the intake that the next command takes.
-#[derive(Drop)]
+#[derive(Clone, Copy, Debug, PartialEq, Eq)]
 pub struct Stepped {
-    pub reply: Reply,
+    pub reply: Result<Reply, Refusal>,
     pub intake: Intake,
 }
 
@@ -54,6 +119,7 @@ impl Command {
 }
 
 // The bytes of a body, 0 for a kind that there is not.
+#[tactic(auto, unfolding(crate::specs::Command::body_size))]
 pub fn body_size(kind: u8) -> usize
     ensures { result ≡ body_size kind }
 {
@@ -66,17 +132,18 @@ pub fn body_size(kind: u8) -> usize
 }
 
 // What a kind and the bytes of its body say.
-pub fn decode(kind: u8, body: &[u8]) -> Decoded
+#[tactic(auto, using(lists::proofs::Choice::tests), unfolding(crate::specs::Command::decoded))]
+pub fn decode(kind: u8, body: &[u8]) -> Result<Command, DecodeError>
     ensures { decoded_of result body.now ≡ decoded kind body.now }
 {
     if body.len() < body_size(kind) {
-        return Decoded::Cut;
+        return Err(DecodeError::Cut);
     }
     match kind {
-        1 => Decoded::Whole(Command::Open(number::u32_at(body, 0) as u64)),
-        2 => Decoded::Whole(Command::Deliver(number::u32_at(body, 0) as u64)),
-        3 => Decoded::Whole(Command::Ask(number::byte_at(body, 0) as u32)),
-        _ => Decoded::Unknown,
+        1 => Ok(Command::Open(u64::from(number::u32_at(body, 0)))),
+        2 => Ok(Command::Deliver(u64::from(number::u32_at(body, 0)))),
+        3 => Ok(Command::Ask(u32::from(number::byte_at(body, 0)))),
+        _ => Err(DecodeError::Unknown),
     }
 }
 
@@ -84,11 +151,7 @@ pub fn decode(kind: u8, body: &[u8]) -> Decoded
 fn piece(body: &[u8]) -> &[u8]
     ensures { result.now ≡ drop number_size body.now }
 {
-    if body.len() < Command::NUMBER {
-        let none = body.len();
-        return &body[none..];
-    }
-    &body[Command::NUMBER..]
+    &body[Command::NUMBER.min(body.len())..]
 }
 
 // Opens an intake. A refused opening keeps the earlier one.
@@ -97,39 +160,43 @@ fn open(earlier: Intake, len: u64, image: &[u8], map: &mut [u64]) -> Stepped
         ≡ step (state earlier.len image.now map.old list) (open_file len) }
 {
     match intake::open(len, image, map) {
-        Opened::Open { intake, blocks } => Stepped {
-            reply: Reply::Opened(blocks),
-            intake,
+        Ok(opened) => Stepped {
+            reply: Ok(Reply::Opened(opened.blocks)),
+            intake: opened.intake,
         },
-        Opened::Refused(refusal) => Stepped {
-            reply: Reply::Refused(refusal.fault()),
+        Err(refusal) => Stepped {
+            reply: Err(refusal),
             intake: earlier,
         },
     }
 }
 
 // Delivers the piece in a body.
-fn deliver(intake: Intake, block: u64, body: &[u8], image: &mut [u8], map: &mut [u64]) -> Reply
+fn deliver(
+    intake: Intake,
+    block: u64,
+    body: &[u8],
+    image: &mut [u8],
+    map: &mut [u64],
+) -> Result<Reply, Refusal>
     ensures { (list : Places) → step_outcome (reply_of result) (state intake.len image.new map.new list)
         ≡ step (state intake.len image.old map.old list) (deliver_block block (drop number_size body.now)) }
 {
-    match intake::deliver(intake, image, map, block, piece(body)) {
-        Delivered::New(held) => Reply::New(held),
-        Delivered::Same(held) => Reply::Same(held),
-        Delivered::Refused(refusal) => Reply::Refused(refusal.fault()),
-    }
+    Ok(Reply::from(intake::deliver(intake, image, map, block, piece(body))?))
 }
 
 // Asks for all rows of a table.
-fn ask(intake: Intake, number: u32, image: &[u8], map: &[u64], list: &mut [u32]) -> Reply
+fn ask(
+    intake: Intake,
+    number: u32,
+    image: &[u8],
+    map: &[u64],
+    list: &mut [u32],
+) -> Result<Reply, Refusal>
     ensures { step_outcome (reply_of result) (state intake.len image.now map.now list.new)
         ≡ step (state intake.len image.now map.now list.old) (ask_table number) }
 {
-    match export::rows(intake, image, map, number, list) {
-        Walked::Full { rows, pages } => Reply::Done { rows, pages },
-        Walked::Waiting { page, rows, pages } => Reply::Wait { page, rows, pages },
-        Walked::Refused(refusal) => Reply::Refused(refusal.fault()),
-    }
+    Ok(Reply::from(export::rows(intake, Memory { image, map }, number, list)?))
 }
 
 // Runs a command whose body is given.

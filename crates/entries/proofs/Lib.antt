@@ -1,6 +1,6 @@
--- Entries of one width: how they lie where they fill a tag (Filled), one of them by its number (EntryElement), judging them one after the
--- other (EntriesLoop), and tags that agree on bytes of them (EntriesAgree).
+-- Entries of one width: how they lie where they fill a tag (Filled), one of them by its number (EntryElement), judging them by their numbers
+-- (EntriesRange), and tags that agree on bytes of them (EntriesAgree).
 pub mod Filled
 pub mod EntryElement
-pub mod EntriesLoop
+pub mod EntriesRange
 pub mod EntriesAgree

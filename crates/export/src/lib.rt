@@ -6,7 +6,7 @@ ghost use Rattle.std.specs.Prelude.{◌≡◌};
 ghost use Rattle.std.specs.Fn.{FnOnceReturnsAt};
 ghost use Rattle.lists.specs.Nth.{nth};
 ghost use Rattle.refusal.specs.Answer.{answer_of, given};
-ghost use Rattle.intake.specs.Memory.{memory, block_at};
+ghost use Rattle.intake.specs.Memory.{memory_of, block_at};
 ghost use Rattle.intake.specs.Private.{Sound};
 ghost use Rattle.directory.specs.Chain.{chain_in};
 ghost use Rattle.page.specs.Found.{no_row};
@@ -25,7 +25,7 @@ ghost use Rattle.export.specs.Private.{OnceHeld, row_at, at_row, row_reply_of, r
 use chain::{Reply, Walked};
 use directory::Directory;
 use format::Page;
-use intake::Intake;
+use intake::{Intake, Memory};
 use page::Row;
 use refusal::Refusal;
 use row::Record;
@@ -63,17 +63,16 @@ pub struct TableBounds {
 
 // What block 0 tells, once it is held.
 fn once_held<T, F: FnOnce(&[u8]) -> Result<T, Refusal>>(
-    image: &[u8],
-    map: &[u64],
+    memory: Memory,
     told: F,
 ) -> Result<Reply<T>, Refusal>
     requires { F.IsAlwaysCallable told }
-    ensures { OnceHeld (memory image.now map.now) (λ answer. FnOnceReturnsAt F.FnOnce told (block_at image.now 0) answer) result }
+    ensures { OnceHeld (memory_of memory.entry) (λ answer. FnOnceReturnsAt F.FnOnce told (block_at memory.entry.image.now 0) answer) result }
 {
-    if !bitmap::has_bit(map, 0) {
+    if !bitmap::has_bit(memory.map, 0) {
         return Ok(Reply::waiting(0));
     }
-    let answer = told(table_walk::first_block(image))?;
+    let answer = told(table_walk::first_block(memory.image))?;
     Ok(Reply::Found(answer))
 }
 
@@ -104,41 +103,34 @@ fn bounds_in(block: &[u8], len: u64, table: Table) -> Result<TableBounds, Refusa
 }
 
 // The answer to a question for all rows of a table, with the places written.
-fn rows_of(
-    len: u64,
-    image: &[u8],
-    map: &[u64],
-    table: Table,
-    list: &mut [u32],
-) -> Result<Walked, Refusal>
-    requires { Sound len (memory image.now map.now) }
+fn rows_of(len: u64, memory: Memory, table: Table, list: &mut [u32]) -> Result<Walked, Refusal>
+    requires { Sound len (memory_of memory) }
     ensures { rows_of result list.new ≡
-        settle_rows (page_size (memory image.now map.now)) list.old
-        (table_walk len (memory image.now map.now) table) }
+        settle_rows (page_size (memory_of memory.entry)) list.old
+        (table_walk len (memory_of memory.entry) table) }
 {
-    let walk = table_walk::walk_table(len, image, map, table);
+    let walk = table_walk::walk_table(len, memory, table);
     let walked = walk.walked?;
     let rows = walked.rows();
     if list.len() < rows {
         return Err(Refusal::ListShort(rows));
     }
-    chain::fill(walk.directory, table, walked.pages(), image, list);
+    chain::fill(walk.directory, table, walked.pages(), memory.image, list);
     Ok(walked)
 }
 
 // All rows of a table: their places go to the front of the list, and the answer counts them and the pages walked.
 pub fn rows(
     intake: Intake,
-    image: &[u8],
-    map: &[u64],
+    memory: Memory,
     number: u32,
     list: &mut [u32],
 ) -> Result<Walked, Refusal>
     ensures { rows_of result list.new ≡
-        ask_rows intake.len (memory image.now map.now) number list.old }
+        ask_rows intake.len (memory_of memory.entry) number list.old }
 {
-    let table = table_walk::asked(intake, image, map, number)?;
-    rows_of(intake.len, image, map, table, list)
+    let table = table_walk::asked(intake, memory, number)?;
+    rows_of(intake.len, memory, table, list)
 }
 
 // The own part of a row: from its start to its page's row index.
@@ -174,20 +166,20 @@ fn row_at(
 }
 
 // Row k of a table.
-fn find_row(
-    len: u64,
-    image: &[u8],
-    map: &[u64],
-    table: Table,
-    k: usize,
-) -> Result<Reply<SizedRow>, Refusal>
-    requires { Sound len (memory image.now map.now) }
-    ensures { row_reply_of result ≡ settle_row (row_at (page_size (memory image.now map.now))) k
-        (table_walk len (memory image.now map.now) table) }
+fn find_row(len: u64, memory: Memory, table: Table, k: usize) -> Result<Reply<SizedRow>, Refusal>
+    requires { Sound len (memory_of memory) }
+    ensures { row_reply_of result ≡ settle_row (row_at (page_size (memory_of memory.entry))) k
+        (table_walk len (memory_of memory.entry) table) }
 {
-    let walk = table_walk::walk_table(len, image, map, table);
+    let walk = table_walk::walk_table(len, memory, table);
     match walk.walked? {
-        walked if k < walked.rows() => row_at(walk.directory, image, table, walked.pages(), k),
+        walked if k < walked.rows() => row_at(
+            walk.directory,
+            memory.image,
+            table,
+            walked.pages(),
+            k,
+        ),
         Walked::Full { .. } => Err(Refusal::NoRow),
         Walked::Waiting { page, rows, pages } => Ok(Reply::Waiting { page, rows, pages }),
     }
@@ -196,35 +188,42 @@ fn find_row(
 // The row that element i of a list names, in a file of this layout. One page is read.
 fn find_element(
     file: FileLayout,
-    image: &[u8],
-    map: &[u64],
+    memory: Memory,
     table: Table,
     list: &[u32],
     i: usize,
 ) -> Result<Reply<SizedRow>, Refusal>
     ensures { row_reply_of result ≡ then_found
-        (listed_row file.len_page file.page_count table image.now map.now list.now i) (row_at file.len_page) }
+        (listed_row file.len_page file.page_count table memory.entry.image.now memory.entry.map.now list.now i) (row_at file.len_page) }
 {
     let size = file.len_page;
-    let found = listed::find(size, file.page_count, table, image, map, list, i)?;
+    let found = listed::find(
+        size,
+        file.page_count,
+        table,
+        memory.image,
+        memory.map,
+        list,
+        i,
+    )?;
     Ok(found.map(|row| SizedRow { row, size }))
 }
 
 // The row that element i of a list names. Of block 0 the header is read, and of the rest one page.
 fn find_listed(
     len: u64,
-    image: &[u8],
-    map: &[u64],
+    memory: Memory,
     table: Table,
     list: &[u32],
     i: usize,
 ) -> Result<Reply<SizedRow>, Refusal>
     ensures { row_reply_of result ≡ then_found
-        (table_listed len (memory image.now map.now) list.now i table)
-        (row_at (page_size (memory image.now map.now))) }
+        (table_listed len (memory_of memory.entry) list.now i table)
+        (row_at (page_size (memory_of memory.entry))) }
 {
-    let layout = once_held(image, map, |block| layout_in(block, len))?;
-    layout.and_then(|file| find_element(file, image, map, table, list, i))
+    let layout = once_held(memory, |block| layout_in(block, len))?;
+    let Memory { image, map } = memory;
+    layout.and_then(|file| find_element(file, Memory { image, map }, table, list, i))
 }
 
 // The record of a row.
@@ -242,31 +241,33 @@ fn record_on(table: Table, image: &[u8], at: SizedRow) -> RecordOn
 // Record k of a table, from 0.
 pub fn record(
     intake: Intake,
-    image: &[u8],
-    map: &[u64],
+    memory: Memory,
     number: u32,
     k: usize,
 ) -> Result<Reply<RecordOn>, Refusal>
-    ensures { record_reply_of result ≡ ask_record intake.len (memory image.now map.now) number k }
+    ensures { record_reply_of result ≡ ask_record intake.len (memory_of memory.entry) number k }
 {
-    let table = table_walk::asked(intake, image, map, number)?;
-    Ok(find_row(intake.len, image, map, table, k)?.map(|at| record_on(table, image, at)))
+    let table = table_walk::asked(intake, memory, number)?;
+    Ok(find_row(intake.len, memory, table, k)?.map(|at| record_on(table, memory.image, at)))
 }
 
 // The record of the row that element i of a list names. Of the table one page is read.
 pub fn record_in(
     intake: Intake,
-    image: &[u8],
-    map: &[u64],
+    memory: Memory,
     number: u32,
     list: &[u32],
     i: usize,
 ) -> Result<Reply<RecordOn>, Refusal>
     ensures { record_reply_of result ≡
-        ask_record_in intake.len (memory image.now map.now) number list.now i }
+        ask_record_in intake.len (memory_of memory.entry) number list.now i }
 {
-    let table = table_walk::asked(intake, image, map, number)?;
-    Ok(find_listed(intake.len, image, map, table, list, i)?.map(|at| record_on(table, image, at)))
+    let table = table_walk::asked(intake, memory, number)?;
+    Ok(find_listed(intake.len, memory, table, list, i)?.map(|at| record_on(
+        table,
+        memory.image,
+        at,
+    )))
 }
 
 // The text of a slot of a row.
@@ -289,54 +290,50 @@ fn text_at(table: Table, image: &[u8], slot: usize, at: SizedRow) -> Result<Repl
 // The text of a string slot of record k of a table; its place counts from the start of the file.
 pub fn text(
     intake: Intake,
-    image: &[u8],
-    map: &[u64],
+    memory: Memory,
     number: u32,
     k: usize,
     slot: usize,
 ) -> Result<Reply<Text>, Refusal>
-    ensures { text_reply_of result ≡ ask_text intake.len (memory image.now map.now) number k slot }
+    ensures { text_reply_of result ≡ ask_text intake.len (memory_of memory.entry) number k slot }
 {
-    let table = table_walk::asked_slot(intake, image, map, number, slot)?;
-    find_row(intake.len, image, map, table, k)?.and_then(|at| text_at(table, image, slot, at))
+    let table = table_walk::asked_slot(intake, memory, number, slot)?;
+    find_row(intake.len, memory, table, k)?.and_then(|at| text_at(table, memory.image, slot, at))
 }
 
 // The text of a string slot of the row that element i of a list names. Of the table one page is read.
 pub fn text_in(
     intake: Intake,
-    image: &[u8],
-    map: &[u64],
+    memory: Memory,
     number: u32,
     list: &[u32],
     i: usize,
     slot: usize,
 ) -> Result<Reply<Text>, Refusal>
     ensures { text_reply_of result ≡
-        ask_text_in intake.len (memory image.now map.now) number list.now i slot }
+        ask_text_in intake.len (memory_of memory.entry) number list.now i slot }
 {
-    let table = table_walk::asked_slot(intake, image, map, number, slot)?;
-    find_listed(intake.len, image, map, table, list, i)?.and_then(|at| text_at(
-        table, image, slot, at,
+    let table = table_walk::asked_slot(intake, memory, number, slot)?;
+    find_listed(intake.len, memory, table, list, i)?.and_then(|at| text_at(
+        table,
+        memory.image,
+        slot,
+        at,
     ))
 }
 
 // Page length and number of pages of the file.
-pub fn layout(intake: Intake, image: &[u8], map: &[u64]) -> Result<Reply<FileLayout>, Refusal>
-    ensures { layout_reply_of result ≡ ask_layout intake.len (memory image.now map.now) }
+pub fn layout(intake: Intake, memory: Memory) -> Result<Reply<FileLayout>, Refusal>
+    ensures { layout_reply_of result ≡ ask_layout intake.len (memory_of memory.entry) }
 {
-    intake::check(intake, image, map)?;
-    once_held(image, map, |block| layout_in(block, intake.len))
+    intake::check(intake, memory)?;
+    once_held(memory, |block| layout_in(block, intake.len))
 }
 
 // First and last page of a table.
-pub fn bounds(
-    intake: Intake,
-    image: &[u8],
-    map: &[u64],
-    number: u32,
-) -> Result<Reply<TableBounds>, Refusal>
-    ensures { bounds_reply_of result ≡ ask_bounds intake.len (memory image.now map.now) number }
+pub fn bounds(intake: Intake, memory: Memory, number: u32) -> Result<Reply<TableBounds>, Refusal>
+    ensures { bounds_reply_of result ≡ ask_bounds intake.len (memory_of memory.entry) number }
 {
-    let table = table_walk::asked(intake, image, map, number)?;
-    once_held(image, map, |block| bounds_in(block, intake.len, table))
+    let table = table_walk::asked(intake, memory, number)?;
+    once_held(memory, |block| bounds_in(block, intake.len, table))
 }

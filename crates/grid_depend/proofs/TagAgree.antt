@@ -1,5 +1,5 @@
 -- Rules 14.17 and 14.18: two tags of one length that agree on the relevant bytes have the same number of beats (`count_agree`) and the
--- same beat k (`beat_agree`). Rests on the answer of each case (beat_grid/BeatAmong) and on numbers that agree (crate number).
+-- same beat k (`beat_agree`). Rests on the answer of each case (BeatAmong) and on numbers that agree (crate number).
 use mathlib.Core.Path.{◌≡◌, refl, sym, ◌∙◌}
 use mathlib.Core.Bool.{true}
 use Prim.Native.Nat.{ℕ, ◌+◌, ◌≤◌}
@@ -19,7 +19,7 @@ use Rattle.entries.proofs.EntriesAgree.{fills_agree, entry_agree, every_agree}
 use Rattle.beat_grid.specs.Beat.{beat_size, beat_of, beat_holds}
 use Rattle.beat_grid.specs.Grid.{len_beats, grid_in}
 use Rattle.beat_grid.specs.Questions.{counted}
-use Rattle.beat_grid.proofs.BeatAmong.{count_short, count_bars, count_given, grid_refused, beat_past, beat_inside}
+use Rattle.grid_depend.proofs.BeatAmong.{count_short, count_bars, count_given, grid_refused, beat_past, beat_inside}
 use Rattle.grid_depend.specs.Bytes.{bar_byte, count_byte, has_beat, beat_byte}
 
 -- the bar position decides whether a beat holds, and the eight bytes what it is

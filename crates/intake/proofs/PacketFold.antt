@@ -197,10 +197,10 @@ module _ (len : ℕ) (m : Memory) (blocks pieces list : List ℕ) where
   unfolding packet
   packet_settled passes = ap (settled_packet len m list) (call_passes len m passes (deliveries_in blocks pieces list))
 
-  pub refused_packet : {f : Fault} → check_call {A = Unit} len m (check_sizes blocks pieces list (given tt)) ≡ refused f
+  pub refused_packet : {f : Fault} → refused f ≡ check_call {A = Unit} len m (check_sizes blocks pieces list (given tt))
       → packet_outcome (refused f) m list ≡ packet len m blocks pieces list
   unfolding packet
-  refused_packet e = rw (check_then (given (paired blocks pieces)), e)
+  refused_packet e = rw (check_then (given (paired blocks pieces)), ← e)
 
   pub taken_packet : {after : Memory} {results : List ℕ} {count : ℕ} → check_call {A = Unit} len m (check_sizes blocks pieces list (given tt)) ≡ given tt
       → after ≡ after_each len m (paired blocks pieces) → results ≡ written list (results_of_each len m (paired blocks pieces))

@@ -1,7 +1,7 @@
 -- What is known where refusals 1 to 3, or 1 to 4, do not apply (specs/Check), and that it is all that is needed. Rules 2.1 to 2.4.
 --     lengths_given, lengths_pass               1 to 3 do not apply exactly when the length is allowed and both buffers are long enough
---     lengths_refused, early_refused, call_refused   a refusal answers, whatever follows
---     only_four, call_passes                    past 1 to 3, and past 1 to 4, what follows answers
+--     lengths_refused, call_refused             a refusal answers, whatever follows
+--     call_passes                               past 1 to 4, what follows answers
 --     sound, sound_accepted, sound_spare, call_given         1 to 4 do not apply exactly when, besides, no spare bit is set
 --     whole_blocks                              an allowed length is a whole number of blocks
 use mathlib.Core.Path.{◌≡◌, refl, ap, ◌∙◌}
@@ -15,7 +15,6 @@ use borrow.Author.Tests.{ltb-false, le-ltb, not-false, eqb-true}
 use Rattle.lists.proofs.Choice.{on, never, both_true}
 use Rattle.format.specs.Size.{block_size}
 use Rattle.refusal.specs.declared.Fault.{Fault}
-use Rattle.refusal.specs.Fault.{fault}
 use Rattle.refusal.specs.Answer.{Answer, given, refused, refuse_if, and_then}
 use Rattle.bitmap.specs.Words.{block_count, word_count}
 use Rattle.bitmap.specs.Spare.{spare_bit}
@@ -69,17 +68,6 @@ module _ (len : ℕ) (m : Memory) where
   call_then : {A : Type 0} (rest : Answer A) → check_call len m rest ≡ and_then (check_call {A = Unit} len m (given tt)) (λ (u : Unit). rest)
   unfolding check_call
   call_then rest = lengths_then len m.image m.map _ rest _ (on (spare_bit len m.map) (λ e. rw e) (λ e. rw e))
-
-  -- past 1 to 3
-  pub only_four : {A : Type 0} → check_lengths {A = Unit} len m.image m.map (given tt) ≡ given tt → (rest : Answer A)
-      → check_call len m rest ≡ refuse_if (spare_bit len m.map) (fault 4 0) rest
-  unfolding check_call
-  only_four e rest = lengths_pass len m.image m.map (lengths_given len m.image m.map e).0 _
-
-  pub early_refused : {A : Type 0} {f : Fault} → check_lengths {A = Unit} len m.image m.map (given tt) ≡ refused f
-      → (rest : Answer A) → check_call len m rest ≡ refused f
-  unfolding check_call
-  early_refused e rest = lengths_refused len m.image m.map e _
 
   pub call_passes : {A : Type 0} → Sound len m → (rest : Answer A) → check_call len m rest ≡ rest
   call_passes e rest = call_then rest ∙ ap (λ (a : Answer Unit). and_then a (λ (u : Unit). rest)) e

@@ -4,7 +4,7 @@
 --     passed, new_absent                           what is known where it is not a refusal, and where it is New
 --     refused_outcome, counted_outcome             the whole delivery, from what the calls of `deliver` give
 -- Rests on refusals 1 to 4 (proofs/RulesPassed).
-use mathlib.Core.Path.{◌≡◌, ◌∙◌}
+use mathlib.Core.Path.{◌≡◌, sym, ◌∙◌}
 use mathlib.Core.Bool.{true, false}
 use mathlib.Core.List.{List}
 use Prim.Native.Nat.{ℕ, ◌+◌, ◌*◌, ◌/◌, ◌<◌, ◌≤◌}
@@ -86,9 +86,9 @@ module _ (len : ℕ) (m : Memory) (block : ℕ) (piece : List ℕ) where
       (λ b. b)
 
   -- the delivery, from what the calls of `deliver` give
-  pub refused_outcome : {f : Fault} → check_call {A = Unit} len m (given tt) ≡ refused f → outcome (refused f) m ≡ delivery len m block piece
+  pub refused_outcome : {f : Fault} → refused f ≡ check_call {A = Unit} len m (given tt) → outcome (refused f) m ≡ delivery len m block piece
   unfolding delivery
-  refused_outcome e = rw (call_refuses e)
+  refused_outcome e = rw (call_refuses (sym e))
 
   pub counted_outcome : {j : Judgement} {a : Answer Taken} → j ≡ judged len m block piece → a ≡ with_count len j.memory.map j.verdict
       → outcome a j.memory ≡ delivery len m block piece

@@ -2,6 +2,7 @@
 use Rattle.std.specs.Prelude.{◌++◌, ℕ, ◌+◌, ◌*◌, take, drop}
 use Rattle.lists.specs.Alias.{Bytes, Words}
 use Rattle.format.specs.Size.{block_size}
+use Rattle.intake.specs.declared.Memory.{Memory as Borrowed}
 
 pub record Memory : Type 0 where
   pub image : Bytes
@@ -9,6 +10,10 @@ pub record Memory : Type 0 where
 
 abbrev pub memory : Bytes → Words → Memory
 memory image map = record { image = image; map = map }
+
+-- what the code's struct refers to
+abbrev pub memory_of : Borrowed → Memory
+memory_of m = memory m.image.now m.map.now
 
 -- the bytes of a block
 unfoldable pub block_at : Bytes → ℕ → Bytes

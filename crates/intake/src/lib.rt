@@ -9,7 +9,7 @@ ghost use Rattle.bitmap.specs.Count.{held_count};
 ghost use Rattle.intake.specs.Length.{allowed_length};
 ghost use Rattle.intake.specs.Check.{check_lengths, check_call};
 ghost use Rattle.intake.specs.Open.{opening_of, opening};
-ghost use Rattle.intake.specs.Memory.{memory};
+ghost use Rattle.intake.specs.Memory.{memory, memory_of};
 ghost use Rattle.intake.specs.Deliver.{stored, verdict, judged, taken, taken_of, outcome_of, delivery};
 ghost use Rattle.intake.specs.Packet.{paired, check_sizes, after_each, results_of_each, packet_outcome_of, packet};
 ghost use Rattle.intake.specs.Missing.{held, next_missing, missing_of};
@@ -33,6 +33,13 @@ impl Intake {
     {
         Intake { len }
     }
+}
+
+// The two buffers of a file, for calls that only read them.
+#[derive(Clone, Copy)]
+pub struct Memory<'a> {
+    pub image: &'a [u8],
+    pub map: &'a [u64],
 }
 
 // What an opening gives: the intake, and how many blocks the file has.
@@ -90,12 +97,13 @@ fn check_lengths(len: u64, image: &[u8], map: &[u64]) -> Result<(), Refusal>
 }
 
 // Refusals 1 to 4, with which every call after the opening begins.
-pub fn check(intake: Intake, image: &[u8], map: &[u64]) -> Result<(), Refusal>
-    ensures { answer_of result ≡ check_call intake.len (memory image.now map.now) (given tt) }
+#[tactic(auto, using(lists::proofs::Choice::tests), unfolding(crate::specs::Check::check_call, crate::specs::Check::check_lengths))]
+pub fn check(intake: Intake, memory: Memory) -> Result<(), Refusal>
+    ensures { answer_of result ≡ check_call intake.len (memory_of memory.entry) (given tt) }
 {
     let len = intake.len;
-    check_lengths(len, image, map)?;
-    if bitmap::has_spare_bit(len, map) {
+    check_lengths(len, memory.image, memory.map)?;
+    if bitmap::has_spare_bit(len, memory.map) {
         return Err(Refusal::MapSpare);
     }
     Ok(())
@@ -114,15 +122,9 @@ pub fn open(len: u64, image: &[u8], map: &mut [u64]) -> Result<Opened, Refusal>
 }
 
 // The verdict on a delivery past refusals 1 to 4.
-fn judge_block(
-    len: u64,
-    image: &[u8],
-    map: &[u64],
-    block: u64,
-    piece: &[u8],
-) -> Result<Judged, Refusal>
-    requires { Sound len (memory image.now map.now) }
-    ensures { judged_of result ≡ verdict len (memory image.now map.now) block piece.now }
+fn judge_block(len: u64, memory: Memory, block: u64, piece: &[u8]) -> Result<Judged, Refusal>
+    requires { Sound len (memory_of memory) }
+    ensures { judged_of result ≡ verdict len (memory_of memory.entry) block piece.now }
 {
     if bitmap::block_count(len) <= block {
         return Err(Refusal::BlockNumber);
@@ -130,12 +132,12 @@ fn judge_block(
     if piece.len() != Block::SIZE {
         return Err(Refusal::PieceSize);
     }
-    if !bitmap::has_bit(map, block) {
+    if !bitmap::has_bit(memory.map, block) {
         return Ok(Judged::New);
     }
     let start = (block as usize) * Block::SIZE;
     let end = start + Block::SIZE;
-    if &image[start..end] == piece {
+    if &memory.image[start..end] == piece {
         Ok(Judged::Same)
     } else {
         Err(Refusal::BlockDiffers)
@@ -166,7 +168,7 @@ fn take_block(
     ensures { judgement_of result image.new map.new
         ≡ judged len (memory image.old map.old) block piece.now }
 {
-    match judge_block(len, image, map, block, piece)? {
+    match judge_block(len, Memory { image, map }, block, piece)? {
         Judged::New => {
             store(image, map, block, piece);
             Ok(Judged::New)
@@ -197,7 +199,7 @@ pub fn deliver(
     ensures { outcome_of result image.new map.new
         ≡ delivery intake.len (memory image.old map.old) block piece.now }
 {
-    check(intake, image, map)?;
+    check(intake, Memory { image, map })?;
     let verdict = take_block(intake.len, image, map, block, piece)?;
     Ok(with_count(intake.len, map, verdict))
 }
@@ -259,18 +261,18 @@ fn check_sizes(blocks: &[u64], pieces: &[u8], results: &[u32]) -> Result<(), Ref
 }
 
 // Refusals 1 to 4, 6 and 17, with which a packet begins.
+#[tactic(auto, using(lists::proofs::Choice::tests), unfolding(crate::specs::Check::check_call, crate::specs::Check::check_lengths))]
 fn check_packet(
     intake: Intake,
-    image: &[u8],
-    map: &[u64],
+    memory: Memory,
     blocks: &[u64],
     pieces: &[u8],
     results: &[u32],
 ) -> Result<(), Refusal>
-    ensures { answer_of result ≡ check_call intake.len (memory image.now map.now)
+    ensures { answer_of result ≡ check_call intake.len (memory_of memory.entry)
         (check_sizes blocks.now pieces.now results.now (given tt)) }
 {
-    check(intake, image, map)?;
+    check(intake, memory)?;
     check_sizes(blocks, pieces, results)
 }
 
@@ -286,7 +288,7 @@ pub fn deliver_packet(
     ensures { packet_outcome_of result image.new map.new results.new
         ≡ packet intake.len (memory image.old map.old) blocks.now pieces.now results.old }
 {
-    check_packet(intake, image, map, blocks, pieces, results)?;
+    check_packet(intake, Memory { image, map }, blocks, pieces, results)?;
     take_blocks(intake.len, image, map, blocks, pieces, results);
     Ok(bitmap::held_count(intake.len, map))
 }

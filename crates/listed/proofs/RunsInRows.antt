@@ -19,7 +19,7 @@ use Rattle.lists.specs.Member.{is_member}
 use Rattle.lists.specs.Distinct.{Distinct}
 use Rattle.lists.proofs.Choice.{on}
 use Rattle.lists.proofs.Each.{Each, each_at, each_append, each_of}
-use Rattle.lists.proofs.Nth.{map_at}
+use Rattle.std.proofs.lemmas.List.{get_or-map}
 use Rattle.lists.proofs.Member.{member_first, member_more}
 use Rattle.page.specs.declared.Row.{Row}
 use Rattle.page.specs.Found.{Rows, place_of, places, no_row}
@@ -50,7 +50,7 @@ module _ (size : ℕ) where
 
   -- the place of row i
   pub place_at : (rows : Rows) (i : ℕ) → i < length rows → get_or (places size rows) i 0 ≡ place_of size (get_or rows i no_row)
-  place_at rows i h = map_at (place_of size) no_row 0 rows i h
+  place_at rows i h = get_or-map (place_of size) rows i no_row 0 h
 
   -- behind rows of other pages a page's rows begin a run
   module _ (page : ℕ) (front rows rest : Rows) (off : NoneOn page front) (here : AllOn page rows) where

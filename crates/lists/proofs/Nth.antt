@@ -2,11 +2,9 @@
 --     nth_none, nth_first, nth_skip     of no element; element 0; past the first element
 --     nth_element, nth_past             what it says of the list
 --     nth_front, past_front             of two lists, one behind the other
---     map_at                            of a list whose elements are all changed alike
-use mathlib.Core.Path.{◌≡◌, refl, ap, ◌∙◌}
-use mathlib.Core.List.{List, [], ◌∷◌, ◌++◌, map}
-use Prim.Native.Nat.{ℕ, zero, suc, ◌+◌, ◌-◌, ◌<◌, ◌≤◌}
-use native.Mathlib.Nat.{le_of_suc-le-suc}
+use mathlib.Core.Path.{◌≡◌, ap, ◌∙◌}
+use mathlib.Core.List.{List, [], ◌∷◌, ◌++◌}
+use Prim.Native.Nat.{ℕ, suc, ◌+◌, ◌-◌, ◌<◌, ◌≤◌}
 use native.Mathlib.Omega.{arith}
 use lib.ListN.{length, get_or, length-append, get_or-append}
 use lib.Seq.{get_or-append-add}
@@ -56,9 +54,3 @@ module _ {A : Type 0} (none : A) where
                   (λ g. let l = ltb-true (k - n) (length ys) g in rw (length-append xs ys, lt-ltb k (length xs + length ys) (omega arith), g, get))
                   (λ g. let l = ltb-false (k - n) (length ys) g in rw (length-append xs ys, le-ltb k (length xs + length ys) (omega arith), g, sum)),
             )
-
--- element k of a list whose elements are all changed alike
-pub map_at : {A B : Type 0} (f : A → B) (none : A) (other : B) (xs : List A) (k : ℕ) → k < length xs → get_or (map f xs) k other ≡ f (get_or xs k none)
-map_at f none other [] k h = absurd (omega arith)
-map_at f none other (x ∷ xs) zero h = refl
-map_at f none other (x ∷ xs) (suc k) h = map_at f none other xs k (le_of_suc-le-suc h)

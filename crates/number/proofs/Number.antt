@@ -1,6 +1,6 @@
 -- Rules 1.2, 1.3 and 14.1: numbers at and past the end of some bytes, the four bytes of a number, and how great it is.
 use mathlib.Core.Path.{◌≡◌, ap}
-use Prim.Native.Nat.{ℕ, ◌+◌, ◌-◌, ◌*◌, ◌<◌, ◌≤◌}
+use Prim.Native.Nat.{ℕ, ◌+◌, ◌*◌, ◌<◌, ◌≤◌}
 use native.Mathlib.Omega.{arith}
 use lib.ListN.{length, get_or-eq_default}
 use Rattle.lists.specs.Alias.{Bytes}

@@ -26,7 +26,7 @@ use Rattle.lists.specs.Alias.{Bytes}
 use Rattle.lists.specs.Any.{any_from}
 use Rattle.lists.proofs.Each.{Each}
 use Rattle.lists.proofs.Any.{any_at}
-use Rattle.lists.proofs.Nth.{map_at}
+use Rattle.std.proofs.lemmas.List.{get_or-map}
 use Rattle.lists.proofs.Choice.{on, cond_holds, cond_agree, or_left, or_right}
 use Rattle.number.proofs.NumberAgree.{agree_less, agree_inside, take_agree, drop_agree, byte_agree, le16_agree, le24_agree, le32_agree}
 use Rattle.row.proofs.RowAgree.{check_agree}
@@ -251,8 +251,8 @@ module _ (number start rank : ℕ) (s t : Bytes) (e : page_rows number s ≡ pag
 
   ranked_same : rank < length (row_entries s) → row_ranked number s rank ≡ row_ranked number t rank
   ranked_same h =
-      sym (map_at (row_of number s) 0 no_row (row_entries s) rank h) ∙ ap (λ (rows : Rows). get_or rows rank no_row) e
-      ∙ map_at (row_of number t) 0 no_row (row_entries t) rank (rw many_same at h)
+      sym (get_or-map (row_of number s) (row_entries s) rank 0 no_row h) ∙ ap (λ (rows : Rows). get_or rows rank no_row) e
+      ∙ get_or-map (row_of number t) (row_entries t) rank 0 no_row (rw many_same at h)
 
   is_row_same : is_row s start rank ≡ is_row t start rank
   unfolding is_row

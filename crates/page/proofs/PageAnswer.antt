@@ -16,7 +16,7 @@ use borrow.Author.Tests.{not-false, eqb-true}
 use Rattle.lists.specs.Alias.{Bytes}
 use Rattle.lists.proofs.Choice.{cond_holds, never}
 use Rattle.lists.proofs.Each.{Each}
-use Rattle.lists.proofs.Nth.{map_at}
+use Rattle.std.proofs.lemmas.List.{get_or-map}
 use Rattle.refusal.specs.declared.Fault.{Fault}
 use Rattle.refusal.specs.Answer.{Answer, given, refused, and_then}
 use Rattle.table.specs.declared.Table.{Table}
@@ -105,7 +105,7 @@ module _ (number : ℕ) (table : Table) (page : Bytes) (rows : Rows) (e : read_p
   pub page_row : (k : ℕ) → k < length rows → get_or rows k no_row ≡ row_of number page (get_or (row_entries page) k 0)
   page_row k h =
       ap (λ (l : Rows). get_or l k no_row) (page_read number table page rows e).found
-      ∙ map_at (row_of number page) 0 no_row (row_entries page) k (omega (arith, page_many))
+      ∙ get_or-map (row_of number page) (row_entries page) k 0 no_row (omega (arith, page_many))
 
 -- a page read has as many rows as it counts, but for one with flag `40`
 pub page_counted : (number : ℕ) (table : Table) (page : Bytes) (rows : Rows) → read_page number table page ≡ given rows → rowless page ≡ false

@@ -1,6 +1,6 @@
 -- Rule 4.15: the tests of a page, and what they leave.
 --     number_rung to good_rung           which test answers, by the tests of the code; by_tests: a case for each
---     index_told, entries_inside         what they tell of the index that they leave
+--     index_told                         what they tell of the index that they leave
 --     counted_rows, no_rows, rows_refused     what reading the page answers then
 --     ranked_row, no-row, row_refused         and what reading one row does
 use mathlib.Core.Path.{◌≡◌, refl, sym, ap, ◌∙◌}
@@ -14,7 +14,7 @@ use borrow.Author.Tests.{ltb-true}
 use Rattle.lists.specs.Alias.{Bytes}
 use Rattle.lists.specs.Nth.{Nth, nth}
 use Rattle.lists.proofs.Choice.{on, never}
-use Rattle.lists.proofs.Nth.{map_at}
+use Rattle.std.proofs.lemmas.List.{get_or-map}
 use Rattle.refusal.specs.declared.Fault.{Fault}
 use Rattle.refusal.specs.declared.Refusal.{Refusal}
 use Rattle.refusal.specs.Fault.{fault, fault_of}
@@ -127,7 +127,7 @@ judged_ranked : (number : ℕ) (table : Table) (page before : Bytes) (start rank
     (judged table before (row_of number page (get_or chosen rank 0)))
 judged_ranked number table page before start rank chosen =
     on (ltb rank (length chosen))
-    (λ h. rw (length-map chosen (row_of number page), h, map_at (row_of number page) 0 no_row chosen rank (ltb-true rank (length chosen) h)))
+    (λ h. rw (length-map chosen (row_of number page), h, get_or-map (row_of number page) chosen rank 0 no_row (ltb-true rank (length chosen) h)))
     (λ h. rw (length-map chosen (row_of number page), h))
 
 pub ranked_row : (number : ℕ) (table : Table) (page : Bytes) (start rank : ℕ) {index : PageIndex} → Rowful number table page index → {found : Nth Row}

@@ -1,17 +1,17 @@
 // Reading one page: its header, its row index and its rows. A page is its own part of the image.
 #![tactic(auto)]
 
-ghost use Rattle.std.specs.Prelude.{◌≡◌, ◌+◌, ◌-◌, ◌*◌, ◌/◌, ◌%◌, ◌^◌, ◌<◌, ◌≤◌, length, set, take, drop};
+ghost use Rattle.std.specs.Prelude.{◌≡◌, ◌+◌, ◌-◌, ◌^◌, ◌<◌, ◌≤◌, length, set, take, drop};
 ghost use Rattle.number.specs.Number.{le16};
 ghost use Rattle.refusal.specs.Answer.{answer_of};
-ghost use Rattle.format.specs.Size.{heap_start, group_size};
+ghost use Rattle.format.specs.Size.{heap_start};
 ghost use Rattle.lists.specs.Write.{written};
 ghost use Rattle.lists.specs.Nth.{nth};
 ghost use Rattle.row.specs.Check.{check_row, check_of};
 ghost use Rattle.page.specs.Header.{next_page, number_agrees, type_agrees, rowless, entries, num_rows};
 ghost use Rattle.page.specs.Index.{rest_size, index_size, flags_at, present, row_start, present_from};
 ghost use Rattle.page.specs.Found.{row_of, no_row};
-ghost use Rattle.page.specs.Read.{index_good, before_index, judged, entry_places, row_places, read_page, row_count};
+ghost use Rattle.page.specs.Read.{before_index, judged, entry_places, row_places, read_page, row_count};
 ghost use Rattle.page.specs.Row.{page_row, row_at_of, Near};
 ghost use Rattle.page.specs.OneRow.{read_row};
 ghost use Rattle.page.specs.Private.{PageIndex, good_index, rows_index, group_ones, tested_index, rows_from, checked_count, judged_at};
@@ -137,7 +137,7 @@ impl<'a> RowIndex<'a> {
     }
 
     // The presence flags of entry i's group.
-    #[tactic(auto, unfolding(crate::specs::Index::flags_at))]
+    #[tactic(auto, using(crate::proofs::EntriesInside::held_room), unfolding(crate::specs::Index::flags_at))]
     fn flags_of(&self, i: u16) -> u16
         requires { i < self.now.entries }
         ensures { result ≡ le16 self.now.page (flags_at self.now.page i) }
@@ -180,7 +180,7 @@ impl<'a> RowIndex<'a> {
     }
 
     // Where the row of entry i starts in the page.
-    #[tactic(auto, unfolding(crate::specs::Index::row_start, crate::specs::Index::offset_at, crate::specs::Index::flags_at))]
+    #[tactic(auto, using(crate::proofs::EntriesInside::held_room), unfolding(crate::specs::Index::row_start, crate::specs::Index::offset_at, crate::specs::Index::flags_at))]
     fn row_start(&self, i: u16) -> usize
         requires { i < self.now.entries }
         ensures { (result ≡ row_start self.now.page i) × (result ≤ heap_start + 0xffff) }
@@ -255,6 +255,7 @@ impl<'a> RowIndex<'a> {
 
 // The tests of a page: its number, its type, flag 40 and its row index. They leave the row index, which is good, or none where
 // the page has flag 40.
+#[tactic(auto, using(crate::proofs::PageTests::number_rung, crate::proofs::PageTests::type_rung, crate::proofs::PageTests::rowless_rung, crate::proofs::PageTests::index_rung, crate::proofs::PageTests::good_rung))]
 fn test_page(page: &[u8], number: u32, table: Table) -> Result<Option<RowIndex<'_>>, Refusal>
     ensures { answer_of result ≡ tested_index number table page.now }
 {
@@ -294,6 +295,7 @@ fn judge_row(before: &[u8], table: Table, row: Row) -> Result<Row, Refusal>
 }
 
 // The number of the page's rows, or the refusal. The places of the rows are written by fill.
+#[tactic(auto, using(crate::proofs::PageTests::index_told, crate::proofs::PageTests::counted_rows, crate::proofs::PageTests::no_rows, crate::proofs::PageTests::rows_refused))]
 pub fn read(page: &[u8], number: u32, table: Table) -> Result<usize, Refusal>
     ensures { answer_of result ≡ row_count (read_page number table page.now) }
 {
@@ -327,6 +329,7 @@ pub fn fill(page: &[u8], start: u32, list: &mut [u32]) -> usize
 }
 
 // Row k of a page of this number, counted from 0 among its present rows, or how many rows there are.
+#[tactic(auto, using(crate::proofs::RowEntries::entries_kept, crate::proofs::RowEntries::entries_none, lists::proofs::Nth::nth_none))]
 pub fn row_at(page: &[u8], number: u32, k: usize) -> Result<Row, usize>
     ensures { (row_at_of result ≡ page_row number page.now k) × Near result }
 {

@@ -135,6 +135,7 @@ impl Layout {
 }
 
 // The layout of an artist row, by its subtype; none of a row of fewer than 0a bytes.
+#[tactic(auto, using(lists::proofs::Choice::tests), unfolding(crate::specs::Layout::artist_layout))]
 fn artist_layout(row: &[u8]) -> Option<Layout>
     ensures { result ≡ artist_layout row.now }
 {
@@ -150,6 +151,7 @@ fn artist_layout(row: &[u8]) -> Option<Layout>
 }
 
 // The string of a slot. Every string is read here.
+#[tactic(auto, using(lists::proofs::Choice::tests))]
 fn text_in_slot(table: Table, row: &[u8], slots: Slots, slot: usize) -> Option<Text>
     ensures { text_of result ≡ text_in_slot table row.now slots slot }
 {
@@ -168,6 +170,7 @@ fn text_in_slot(table: Table, row: &[u8], slots: Slots, slot: usize) -> Option<T
 }
 
 // Checks that the strings of a row are well-formed.
+#[tactic(auto, using(crate::proofs::TextsLoop::begin, crate::proofs::TextsLoop::end, crate::proofs::TextsLoop::good, crate::proofs::TextsLoop::bad))]
 fn check_texts(table: Table, row: &[u8], slots: Slots) -> Result<(), RowError>
     ensures { check_of result ≡ check_texts table row.now slots (slots_in slots) 0 }
 {
@@ -256,6 +259,7 @@ fn row_layout(table: Table, row: &[u8]) -> Option<Layout>
 }
 
 // Checks that a row's fixed part fits and that its strings are well-formed.
+#[tactic(auto, using(lists::proofs::Choice::tests), unfolding(crate::specs::Check::check_row))]
 pub fn check_row(table: Table, row: &[u8]) -> Result<(), RowError>
     ensures { check_of result ≡ check_row table row.now }
 {
@@ -267,6 +271,7 @@ pub fn check_row(table: Table, row: &[u8]) -> Result<(), RowError>
 }
 
 // The string of a slot, its place counted from the row's start.
+#[tactic(auto, unfolding(crate::specs::Slot::slot_text))]
 pub fn slot_text(table: Table, row: &[u8], slot: usize) -> Option<Text>
     ensures { text_of result ≡ slot_text table row.now slot }
 {

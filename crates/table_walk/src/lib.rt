@@ -3,7 +3,7 @@
 
 ghost use Rattle.std.specs.Prelude.{◌≡◌};
 ghost use Rattle.refusal.specs.Answer.{answer_of};
-ghost use Rattle.intake.specs.Memory.{memory, block_at};
+ghost use Rattle.intake.specs.Memory.{memory_of, block_at};
 ghost use Rattle.chain.specs.Tally.{tally, walked_of};
 ghost use Rattle.table_walk.specs.Asked.{asked_table, asked_slot};
 ghost use Rattle.table_walk.specs.Walk.{table_walk, walk_directory};
@@ -11,7 +11,7 @@ ghost use Rattle.table_walk.specs.Walk.{table_walk, walk_directory};
 use chain::Walked;
 use directory::Directory;
 use format::Block;
-use intake::Intake;
+use intake::{Intake, Memory};
 use refusal::Refusal;
 use table::Table;
 
@@ -23,24 +23,23 @@ pub struct TableWalked {
 }
 
 // The table asked for, past refusals 1 to 4 and 8.
-pub fn asked(intake: Intake, image: &[u8], map: &[u64], number: u32) -> Result<Table, Refusal>
-    ensures { answer_of result ≡ asked_table intake.len (memory image.now map.now) number }
+pub fn asked(intake: Intake, memory: Memory, number: u32) -> Result<Table, Refusal>
+    ensures { answer_of result ≡ asked_table intake.len (memory_of memory.entry) number }
 {
-    intake::check(intake, image, map)?;
+    intake::check(intake, memory)?;
     Table::try_from(number)
 }
 
 // The table of a question for a string, past refusal 19 too.
 pub fn asked_slot(
     intake: Intake,
-    image: &[u8],
-    map: &[u64],
+    memory: Memory,
     number: u32,
     slot: usize,
 ) -> Result<Table, Refusal>
-    ensures { answer_of result ≡ asked_slot intake.len (memory image.now map.now) number slot }
+    ensures { answer_of result ≡ asked_slot intake.len (memory_of memory.entry) number slot }
 {
-    let table = asked(intake, image, map, number)?;
+    let table = asked(intake, memory, number)?;
     if table.slots() <= slot {
         return Err(Refusal::NoSlot);
     }
@@ -58,11 +57,11 @@ pub fn first_block(image: &[u8]) -> &[u8]
 }
 
 // The walk for a table of a file of len bytes. The header is read here, once for a question.
-pub fn walk_table(len: u64, image: &[u8], map: &[u64], table: Table) -> TableWalked
-    ensures { (walked_of result.walked ≡ tally (table_walk len (memory image.now map.now) table)) ×
-        (result.directory ≡ walk_directory len (memory image.now map.now)) }
+pub fn walk_table(len: u64, memory: Memory, table: Table) -> TableWalked
+    ensures { (walked_of result.walked ≡ tally (table_walk len (memory_of memory.entry) table)) ×
+        (result.directory ≡ walk_directory len (memory_of memory.entry)) }
 {
-    if !bitmap::has_bit(map, 0) {
+    if !bitmap::has_bit(memory.map, 0) {
         return TableWalked {
             walked: Ok(Walked::Waiting {
                 page: 0,
@@ -72,9 +71,9 @@ pub fn walk_table(len: u64, image: &[u8], map: &[u64], table: Table) -> TableWal
             directory: Directory::none(),
         };
     }
-    match Directory::read(first_block(image), len) {
+    match Directory::read(first_block(memory.image), len) {
         Some(directory) => TableWalked {
-            walked: chain::walk(directory, table, image, map),
+            walked: chain::walk(directory, table, memory.image, memory.map),
             directory,
         },
         None => TableWalked {

@@ -87,6 +87,7 @@ impl StringAt<'_> {
     }
 
     // A long string: kind `40` or `90`.
+    #[tactic(auto, using(crate::proofs::LongText::outside, crate::proofs::LongText::ascii, crate::proofs::LongText::code, crate::proofs::LongText::odd, crate::proofs::LongText::even), unfolding(crate::specs::Code::code_length))]
     fn long(self, table: Table, slot: usize, first: u8) -> Option<Text>
         requires { is_long first ≡ true }
         ensures { text_of result ≡ text_by_kind table slot self.entry.s.now self.entry.at first }
@@ -110,6 +111,7 @@ impl StringAt<'_> {
 
 // The string at an offset of a row's part, which ends where the row index begins, in this slot of this table; none if it is
 // malformed or outside.
+#[tactic(auto, using(lists::proofs::Choice::tests), unfolding(crate::specs::Text::head_size, crate::specs::Text::whole_size, crate::specs::Text::plain_text, crate::specs::Text::text_in, crate::specs::Text::read_text, crate::specs::Code::is_code))]
 pub fn read(table: Table, slot: usize, s: &[u8], at: usize) -> Option<Text>
     ensures { text_of result ≡ read_text table slot s.now at }
 {

@@ -1,24 +1,21 @@
 -- Rules 14.27 and 14.28: entry k of a section, by the tests of the code, and room for its place in the file (`entry_room`).
 use mathlib.Core.Path.{◌≡◌, ap}
-use mathlib.Core.Bool.{true, false}
-use Prim.Native.Nat.{ℕ, ◌+◌, ◌*◌, ◌<◌, ◌≤◌}
+use mathlib.Core.Bool.{true}
+use Prim.Native.Nat.{ℕ, ◌+◌, ◌*◌, ◌≤◌}
 use native.Mathlib.Nat.{mul-le-mul_left}
 use native.Mathlib.Omega.{arith}
 use lib.ListN.{length}
 use lib.Dec.{eqb}
-use borrow.Author.Tests.{le-leb, lt-leb}
 use Rattle.lists.specs.Alias.{Bytes}
 use Rattle.lists.proofs.Choice.{both_true}
 use Rattle.lists.proofs.Part.{part_ends}
-use Rattle.refusal.specs.Fault.{fault}
-use Rattle.refusal.specs.Answer.{given, refused}
 use Rattle.anlz.specs.declared.Section.{Section}
 use Rattle.anlz.specs.Section.{tag_of}
 use Rattle.entries.specs.Entries.{entry_at}
 use Rattle.entries.specs.Filled.{Filled}
 use Rattle.entries.proofs.Filled.{entries_filled}
 use Rattle.waveform.specs.declared.Wave.{Wave}
-use Rattle.waveform.specs.Wave.{len_entry_bytes, len_entries, wave_width, count_holds, wave_holds, wave_entry, entry_in}
+use Rattle.waveform.specs.Wave.{len_entry_bytes, len_entries, wave_width, count_holds, wave_holds}
 
 pub wave_filled : (wave : Wave) (tag : Bytes) → wave_holds wave tag ≡ true → Filled (wave_width wave) (len_entries tag) tag
 unfolding wave_holds
@@ -28,22 +25,9 @@ wave_filled wave tag e =
     entries_filled (wave_width wave) (len_entries tag) tag count.1
 
 module _ (wave : Wave) (file : Bytes) (section : Section) (k : ℕ) {tag : Bytes} (t : tag ≡ tag_of file section) where
-  pub wave_bad : wave_holds wave tag ≡ false → refused (fault 27 0) ≡ entry_in wave file section k
-  unfolding entry_in
-  wave_bad e = rw (← t, e)
-
-  module _ (holds : wave_holds wave tag ≡ true) {n : ℕ} (number : n ≡ len_entries tag) where
-    pub entry_past : n ≤ k → refused (fault 18 0) ≡ entry_in wave file section k
-    unfolding entry_in
-    entry_past h = rw (← t, holds, ← number, le-leb n k h)
-
-    pub entry_given : k < n → given (wave_entry wave section k) ≡ entry_in wave file section k
-    unfolding entry_in
-    entry_given h = rw (← t, holds, ← number, lt-leb n k h)
-
-    pub entry_room : k ≤ n → section.place + entry_at (wave_width wave) k ≤ length file
-    entry_room h =
-        let last = (wave_filled wave tag holds).last in
-        let more : wave_width wave * k ≤ wave_width wave * len_entries tag = mul-le-mul_left (wave_width wave) (omega arith) in
-        let same = ap length t in
-        omega (arith, (part_ends file section.place section.end (omega arith)).1)
+  pub entry_room : wave_holds wave tag ≡ true → {n : ℕ} → n ≡ len_entries tag → k ≤ n → section.place + entry_at (wave_width wave) k ≤ length file
+  entry_room holds number h =
+      let last = (wave_filled wave tag holds).last in
+      let more : wave_width wave * k ≤ wave_width wave * len_entries tag = mul-le-mul_left (wave_width wave) (omega arith) in
+      let same = ap length t in
+      omega (arith, (part_ends file section.place section.end (omega arith)).1)

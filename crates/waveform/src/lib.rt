@@ -40,6 +40,7 @@ impl TryFrom<u64> for Wave {
 
     ghost try_from_gives = { WaveOf };
 
+    #[tactic(auto, unfolding(crate::specs::Sort::sort_of))]
     fn try_from(number: u64) -> Result<Self, AnlzRefusal> {
         match number {
             3 => Ok(Wave::Detail),
@@ -88,23 +89,22 @@ impl Wave {
     }
 
     // Whether the width and the number of the entries are right, and they fill the section.
+    #[tactic(auto, unfolding(crate::specs::Wave::wave_holds))]
     fn holds(self, tag: &[u8]) -> bool
         ensures { result ≡ wave_holds self tag.now }
     {
-        let width = self.width();
-        if number::u32_be_at(tag, 0x0c) != width {
-            return false;
-        }
-        let count = number::u32_be_at(tag, 0x10);
-        if self.count_holds(count) {
-            let entries = Entries { width, count };
-            entries.fill(tag)
-        } else {
-            false
-        }
+        let entries = Entries {
+            tag,
+            width: self.width(),
+            count: number::u32_be_at(tag, 0x10),
+        };
+        number::u32_be_at(tag, 0x0c) == entries.width
+            && self.count_holds(entries.count)
+            && entries.fill()
     }
 
     // Entry k of this section.
+    #[tactic(auto, unfolding(crate::specs::Wave::entry_in))]
     fn entry_in(self, file: &[u8], section: Section, k: u64) -> Result<WaveEntry, AnlzRefusal>
         ensures { anlz_answer_of result ≡ entry_in self file.now section k }
     {
@@ -112,12 +112,19 @@ impl Wave {
         if !self.holds(tag) {
             return Err(AnlzRefusal::Waveform);
         }
-        if (number::u32_be_at(tag, 0x10) as u64) <= k {
+        let entries = Entries {
+            tag,
+            width: self.width(),
+            count: number::u32_be_at(tag, 0x10),
+        };
+        if (entries.count as u64) <= k {
             return Err(AnlzRefusal::Absent);
         }
-        let width = self.width();
-        let place = section.place + (Entries::START + (width as usize) * (k as usize));
-        Ok(WaveEntry { place, width })
+        let place = section.place + entries.start_of(k as u32);
+        Ok(WaveEntry {
+            place,
+            width: entries.width,
+        })
     }
 
     // Entry k of the first section of this sort.

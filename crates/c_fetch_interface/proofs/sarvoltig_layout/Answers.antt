@@ -1,8 +1,9 @@
--- `sarvoltig_layout` meets its contract: the library gives the answer, and `reply_layout` its code and values.
-use Rattle.c_reply.specs.Reply.{reply_to}
-use Rattle.c_replies.specs.Replies.{layout_reply}
-use Rattle.c_reply.proofs.ReplyCarriesOver.{replied}
+-- `sarvoltig_layout` meets its contract: `export::layout` gives the answer, and `reply` the code and the values.
+use Rattle.export.specs.declared.FileLayout.{FileLayout}
+use Rattle.c_replies.specs.Replies.{layout_values}
+use Rattle.c_replies.proofs.Stands.{found_told}
 use Rattle.c_fetch_interface.proofs.sarvoltig_layout.Goals as goal
 
 pub returns : goal.returns
-returns c = rw (← c.new.ensures) (replied (reply_to layout_reply) _ c.layout.ensures c.reply_layout.ensures)
+returns c =
+    rw (← c.new.ensures) (found_told layout_values (λ (x : FileLayout). x) _ _ c.layout.ensures c.reply.ensures)

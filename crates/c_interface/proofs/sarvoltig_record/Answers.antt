@@ -1,8 +1,9 @@
--- `sarvoltig_record` meets its contract: `export::record` gives the answer, and `reply_record` its code and values.
-use Rattle.c_reply.specs.Reply.{reply_to}
-use Rattle.c_replies.specs.Replies.{record_reply}
-use Rattle.c_reply.proofs.ReplyCarriesOver.{replied}
+-- `sarvoltig_record` meets its contract: `export::record` gives the answer, and `reply` the code and the values.
+use Rattle.export.specs.Record.{record_on_of}
+use Rattle.c_replies.specs.Replies.{record_values}
+use Rattle.c_replies.proofs.Stands.{found_told}
 use Rattle.c_interface.proofs.sarvoltig_record.Goals as goal
 
 pub returns : goal.returns
-returns c = rw (← c.new.ensures) (replied (reply_to record_reply) _ c.«record».ensures c.reply_record.ensures)
+returns c =
+    rw (← c.new.ensures) (found_told record_values record_on_of _ _ c.«record».ensures c.reply.ensures)

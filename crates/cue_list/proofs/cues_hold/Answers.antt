@@ -1,20 +1,8 @@
--- `cue_list::cues_hold` meets its contract: by the loop's invariant `EntriesLeft` (entries/EntriesLoop).
-use mathlib.Core.Path.{sym, ◌∙◌}
-use Rattle.entries.proofs.EntriesLoop.{entries_begin, entries_bad, entries_next, entries_end}
+-- `cue_list::cues_hold` meets its contract: the entries are judged by their numbers (entries/EntriesRange).
+use Rattle.std.proofs.Common.{rules, tests}
+use Rattle.entries.proofs.EntriesRange.{every_from_all}
+use Rattle.cue_list.specs.Cue.{cue_holds}
 use Rattle.cue_list.proofs.cues_hold.Goals as goal
 
-pub loop-k-init : goal.loop-k-init
-loop-k-init c = entries_begin _ _ _ _
-
-pub returns-then-not-cue_holds : goal.returns-then-not-cue_holds
-returns-then-not-cue_holds c =
-    entries_bad c.loop-k.invariant c.loop-k-test.true
-    (rw c.entry.ensures at (sym c.cue_holds.ensures ∙ c.if-not-cue_holds.true))
-
-pub loop-k-preserved : goal.loop-k-preserved
-loop-k-preserved c =
-    entries_next c.loop-k.invariant c.loop-k-test.true
-    (rw c.entry.ensures at (sym c.cue_holds.ensures ∙ c.if-not-cue_holds.false))
-
 pub returns : goal.returns
-returns c = entries_end c.loop-k.invariant c.loop-k-test.false
+returns c = every_from_all cue_holds _ _ _ _ _ _ c.all.ensures.ran (cc) (λ x b q k. search (rules, tests))

@@ -11,16 +11,16 @@ loop-init g c = rw c.new-intake.ensures (none_reached _, leads_start _ _)
 pub returns-in_err-next-clause-some : goal.returns-in_err-next-clause-some
 returns-in_err-next-clause-some g c = record { len = _; reached = both_reached c.loop.invariant.0 c.in_err-next.ensures.err.reached }
 
-pub returns-in-Stop-clause-some : goal.returns-in-Stop-clause-some
-returns-in-Stop-clause-some g c = record { len = _; reached = both_reached c.loop.invariant.0 (rw c.in-Stop.is at c.in_ok-next.ensures.ok) }
+pub returns-in-None-clause-some : goal.returns-in-None-clause-some
+returns-in-None-clause-some g c = record { len = _; reached = both_reached c.loop.invariant.0 (rw c.in-None.is at c.in_ok-next.ensures.ok) }
 
-pub returns-in-Stop-clause-all : goal.returns-in-Stop-clause-all
-returns-in-Stop-clause-all g c = ran_all _ _ _ _ _ _ _ _ _ (leads_end _ _ _ _ _ _ c.loop.invariant.1 (rw c.in-Stop.is at c.in_ok-next.ensures.read))
+pub returns-in-None-clause-all : goal.returns-in-None-clause-all
+returns-in-None-clause-all g c = ran_all _ _ _ _ _ _ _ _ _ (leads_end _ _ _ _ _ _ c.loop.invariant.1 (rw c.in-None.is at c.in_ok-next.ensures.read))
 
 pub loop-preserved : goal.loop-preserved
 loop-preserved g c = (
-  both_reached c.loop.invariant.0 (rw c.in-Next.is at c.in_ok-next.ensures.ok),
-  leads_on _ _ _ _ _ _ _ c.loop.invariant.1 (rw c.in-Next.is at c.in_ok-next.ensures.read),
+  both_reached c.loop.invariant.0 (rw c.in-Some.is at c.in_ok-next.ensures.ok),
+  leads_on _ _ _ _ _ _ _ c.loop.invariant.1 (rw c.in-Some.is at c.in_ok-next.ensures.read),
 )
 
 pub returns-clause-all : goal.returns-clause-all

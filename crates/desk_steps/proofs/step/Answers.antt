@@ -6,6 +6,3 @@ returns-in-Open c = rw c.in-Open.is (c.open.ensures c.args.list.now)
 
 pub returns-in-Deliver : goal.returns-in-Deliver
 returns-in-Deliver c = rw c.in-Deliver.is (c.deliver.ensures c.args.list.now)
-
-pub returns-in-Ask : goal.returns-in-Ask
-returns-in-Ask c = rw c.in-Ask.is c.ask.ensures

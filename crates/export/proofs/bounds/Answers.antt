@@ -1,7 +1,7 @@
 -- `export::bounds` meets its contract: the table asked for chooses the case of `ask_bounds`.
 use borrow.Author.Rules.{rules}
 use Rattle.std.proofs.lemmas.Result.{err_from_is_err_and}
-use Rattle.intake.specs.Memory.{memory}
+use Rattle.intake.specs.Memory.{memory_of}
 use Rattle.export.specs.Layout.{bounds_in, ask_bounds}
 use Rattle.export.proofs.LayoutStart.{once_told}
 use Rattle.export.proofs.bounds.Goals as goal
@@ -17,4 +17,4 @@ unfolding ask_bounds
 returns c =
     let a = c.args in
     rw (← c.in_ok-table.ensures)
-    (once_told (memory a.image.now a.map.now) (λ block. bounds_in a.intake.len block c.in_ok-table.table) _ c.once_held.result c.once_held.ensures (λ x q. search rules))
+    (once_told (memory_of a.memory) (λ block. bounds_in a.intake.len block c.in_ok-table.table) _ c.once_held.result c.once_held.ensures (λ x q. search rules))

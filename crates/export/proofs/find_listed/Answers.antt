@@ -3,7 +3,7 @@ use mathlib.Core.Path.{ap, ◌∙◌}
 use borrow.Author.Rules.{rules}
 use Rattle.std.proofs.lemmas.Result.{err_from_is_err_and}
 use Rattle.refusal.specs.Answer.{Answer}
-use Rattle.intake.specs.Memory.{memory}
+use Rattle.intake.specs.Memory.{memory_of}
 use Rattle.chain.specs.Found.{Found, then_found}
 use Rattle.chain.proofs.ReplyThen.{follow_then}
 use Rattle.export.specs.declared.FileLayout.{FileLayout}
@@ -16,7 +16,7 @@ use Rattle.export.proofs.find_listed.Goals as goal
 pub returns-in_err-layout : goal.returns-in_err-layout
 returns-in_err-layout c =
     let a = c.args in
-    let m = memory a.image.now a.map.now in
+    let m = memory_of a.memory in
     let told = once_told m (layout_in a.len) _ c.once_held.result c.once_held.ensures (λ x q. search rules) in
     let passed = err_from_is_err_and c.from_residual.result c.from_residual.ensures.1 in
     rw (passed.1, passed.2)
@@ -26,7 +26,7 @@ returns-in_err-layout c =
 pub returns : goal.returns
 returns c =
     let a = c.args in
-    let m = memory a.image.now a.map.now in
+    let m = memory_of a.memory in
     let told = once_told m (layout_in a.len) _ c.once_held.result c.once_held.ensures (λ x q. search rules) in
     follow_then (λ (file : FileLayout). file) (λ (at : SizedRow). at) (element_row m a.list.now a.i a.table) _ c.in_ok-layout.layout c.and_then.result c.and_then.ensures (λ x y q. search rules)
     ∙ ap (λ (x : Answer (Found FileLayout)). then_found x (element_row m a.list.now a.i a.table)) (rw c.in_ok-layout.was at told)

@@ -3,7 +3,7 @@ use mathlib.Core.Path.{ap, ◌∙◌}
 use borrow.Author.Rules.{rules}
 use Rattle.std.proofs.lemmas.Result.{err_from_is_err_and}
 use Rattle.refusal.specs.Answer.{Answer}
-use Rattle.intake.specs.Memory.{memory}
+use Rattle.intake.specs.Memory.{memory_of}
 use Rattle.chain.specs.Found.{Found, then_found}
 use Rattle.table_walk.specs.Walk.{page_size, table_walk}
 use Rattle.export.specs.declared.SizedRow.{SizedRow}
@@ -23,26 +23,26 @@ returns-in_err-table c =
 pub find_row-requires : goal.find_row-requires
 find_row-requires c =
     let a = c.args in
-    asked_sound a.intake.len (memory a.image.now a.map.now) a.number c.in_ok-table.ensures
+    asked_sound a.intake.len (memory_of a.memory) a.number c.in_ok-table.ensures
 
 pub returns-in_err-find_row : goal.returns-in_err-find_row
 unfolding ask_record
 returns-in_err-find_row c =
     let a = c.args in
-    let m = memory a.image.now a.map.now in
+    let m = memory_of a.memory in
     let table = c.in_ok-table.table in
     let passed = err_from_is_err_and c.from_residual-in_err-find_row.result c.from_residual-in_err-find_row.ensures.1 in
     rw (passed.1, passed.2, ← c.in_ok-table.ensures)
-    (ap (λ (x : Answer (Found SizedRow)). then_found x (record_in table a.image.now)) c.in_err-find_row.ensures
-    ∙ by_row (page_size m) a.k (record_in table a.image.now) (table_walk a.intake.len m table))
+    (ap (λ (x : Answer (Found SizedRow)). then_found x (record_in table a.memory.image.now)) c.in_err-find_row.ensures
+    ∙ by_row (page_size m) a.k (record_in table a.memory.image.now) (table_walk a.intake.len m table))
 
 pub returns : goal.returns
 unfolding ask_record
 returns c =
     let a = c.args in
-    let m = memory a.image.now a.map.now in
+    let m = memory_of a.memory in
     let table = c.in_ok-table.table in
     rw (← c.in_ok-table.ensures)
-    (map_then (λ (at : SizedRow). at) record_on_of (record_in table a.image.now) _ c.in_ok-find_row.field-0 c.map.result c.map.ensures (λ x y q. search rules)
-    ∙ ap (λ (x : Answer (Found SizedRow)). then_found x (record_in table a.image.now)) c.in_ok-find_row.ensures
-    ∙ by_row (page_size m) a.k (record_in table a.image.now) (table_walk a.intake.len m table))
+    (map_then (λ (at : SizedRow). at) record_on_of (record_in table a.memory.image.now) _ c.in_ok-find_row.field-0 c.map.result c.map.ensures (λ x y q. search rules)
+    ∙ ap (λ (x : Answer (Found SizedRow)). then_found x (record_in table a.memory.image.now)) c.in_ok-find_row.ensures
+    ∙ by_row (page_size m) a.k (record_in table a.memory.image.now) (table_walk a.intake.len m table))

@@ -3,7 +3,7 @@ use mathlib.Core.Path.{ap, ◌∙◌}
 use borrow.Author.Rules.{rules}
 use Rattle.std.proofs.lemmas.Result.{err_from_is_err_and}
 use Rattle.refusal.specs.Answer.{Answer}
-use Rattle.intake.specs.Memory.{memory}
+use Rattle.intake.specs.Memory.{memory_of}
 use Rattle.chain.specs.Found.{Found, then_found}
 use Rattle.table_walk.specs.Walk.{page_size}
 use Rattle.export.specs.declared.SizedRow.{SizedRow}
@@ -24,20 +24,20 @@ pub returns-in_err-find_listed : goal.returns-in_err-find_listed
 unfolding ask_record_in
 returns-in_err-find_listed c =
     let a = c.args in
-    let m = memory a.image.now a.map.now in
+    let m = memory_of a.memory in
     let table = c.in_ok-table.table in
     let passed = err_from_is_err_and c.from_residual-in_err-find_listed.result c.from_residual-in_err-find_listed.ensures.1 in
     rw (passed.1, passed.2, ← c.in_ok-table.ensures)
-    (ap (λ (x : Answer (Found SizedRow)). then_found x (record_in table a.image.now)) c.in_err-find_listed.ensures
-    ∙ listed-row (page_size m) (table_listed a.intake.len m a.list.now a.i table) (record_in table a.image.now))
+    (ap (λ (x : Answer (Found SizedRow)). then_found x (record_in table a.memory.image.now)) c.in_err-find_listed.ensures
+    ∙ listed-row (page_size m) (table_listed a.intake.len m a.list.now a.i table) (record_in table a.memory.image.now))
 
 pub returns : goal.returns
 unfolding ask_record_in
 returns c =
     let a = c.args in
-    let m = memory a.image.now a.map.now in
+    let m = memory_of a.memory in
     let table = c.in_ok-table.table in
     rw (← c.in_ok-table.ensures)
-    (map_then (λ (at : SizedRow). at) record_on_of (record_in table a.image.now) _ c.in_ok-find_listed.field-0 c.map.result c.map.ensures (λ x y q. search rules)
-    ∙ ap (λ (x : Answer (Found SizedRow)). then_found x (record_in table a.image.now)) c.in_ok-find_listed.ensures
-    ∙ listed-row (page_size m) (table_listed a.intake.len m a.list.now a.i table) (record_in table a.image.now))
+    (map_then (λ (at : SizedRow). at) record_on_of (record_in table a.memory.image.now) _ c.in_ok-find_listed.field-0 c.map.result c.map.ensures (λ x y q. search rules)
+    ∙ ap (λ (x : Answer (Found SizedRow)). then_found x (record_in table a.memory.image.now)) c.in_ok-find_listed.ensures
+    ∙ listed-row (page_size m) (table_listed a.intake.len m a.list.now a.i table) (record_in table a.memory.image.now))

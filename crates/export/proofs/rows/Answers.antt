@@ -1,6 +1,6 @@
 -- `export::rows` meets its contract: the table asked for chooses the case of `ask_rows`.
 use Rattle.std.proofs.lemmas.Result.{err_from_is_err_and}
-use Rattle.intake.specs.Memory.{memory}
+use Rattle.intake.specs.Memory.{memory_of}
 use Rattle.export.specs.Rows.{ask_rows}
 use Rattle.table_walk.proofs.AskedTable.{asked_sound}
 use Rattle.export.proofs.rows.Goals as goal
@@ -14,7 +14,7 @@ returns-in_err-table c =
 pub rows_of-requires : goal.rows_of-requires
 rows_of-requires c =
     let a = c.args in
-    asked_sound a.intake.len (memory a.image.now a.map.now) a.number c.in_ok-table.ensures
+    asked_sound a.intake.len (memory_of a.memory) a.number c.in_ok-table.ensures
 
 pub returns : goal.returns
 unfolding ask_rows

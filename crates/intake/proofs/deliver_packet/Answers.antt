@@ -1,13 +1,11 @@
 -- `intake::deliver_packet` meets its contract: refused as the check says, else each block is taken in and the blocks are counted (proofs/PacketFold).
 use mathlib.Core.Path.{sym}
-use Rattle.std.proofs.lemmas.Result.{err_from_is_err_and}
+use Rattle.std.proofs.Common.{rules}
 use Rattle.intake.proofs.PacketFold.{sizes_passed, refused_packet, taken_packet}
 use Rattle.intake.proofs.deliver_packet.Goals as goal
 
 pub returns-in_err-check_packet : goal.returns-in_err-check_packet
-returns-in_err-check_packet c =
-    let p = err_from_is_err_and c.from_residual.result c.from_residual.ensures.1 in
-    rw (p.1, p.2) (refused_packet _ _ _ _ _ (sym c.in_err-check_packet.ensures))
+returns-in_err-check_packet c = search (rules, refused_packet)
 
 pub take_blocks-requires : goal.take_blocks-requires
 take_blocks-requires c =

@@ -3,7 +3,7 @@ use mathlib.Core.Path.{sym, ◌∙◌}
 use Prim.Native.Nat.{◌<◌}
 use native.Mathlib.Omega.{arith}
 use Rattle.bitmap.specs.Words.{block_count}
-use Rattle.intake.specs.Memory.{memory}
+use Rattle.intake.specs.Memory.{memory_of}
 use Rattle.intake.proofs.Verdict.{block_inside, number_refused, size_refused, bytes_refused, is_same, is_new}
 use Rattle.intake.proofs.EqualBytes.{equal_is}
 use Rattle.intake.proofs.BlockBytes.{part_equal}
@@ -21,7 +21,7 @@ returns-then-not-has_bit c = sym (is_new _ _ _ _ c.requires (omega arith) c.if-p
 pub slice_bounds-eq-end : goal.slice_bounds-eq-end
 slice_bounds-eq-end c =
     let inside : c.args.block < block_count c.args.len = omega arith in
-    omega (arith, block_inside c.args.len (memory c.args.image.now c.args.map.now) c.args.block c.requires inside)
+    omega (arith, block_inside c.args.len (memory_of c.args.memory) c.args.block c.requires inside)
 
 pub returns-then-eq : goal.returns-then-eq
 returns-then-eq c =

@@ -1,14 +1,12 @@
 -- `intake::open` meets its contract: refused as the check says, else the words in use are cleared (proofs/OpenClears).
 use mathlib.Core.Path.{sym}
 use lib.Seq.{length-take-le}
-use Rattle.std.proofs.lemmas.Result.{err_from_is_err_and}
+use Rattle.std.proofs.Common.{rules}
 use Rattle.intake.proofs.OpenClears.{words_inside, open_refused, open_given}
 use Rattle.intake.proofs.open.Goals as goal
 
 pub returns-in_err-check_lengths : goal.returns-in_err-check_lengths
-returns-in_err-check_lengths c =
-    let p = err_from_is_err_and c.from_residual.result c.from_residual.ensures.1 in
-    rw (p.1, p.2) (open_refused _ _ _ c.in_err-check_lengths.ensures)
+returns-in_err-check_lengths c = search (rules, open_refused)
 
 pub slice_bounds-fill-end : goal.slice_bounds-fill-end
 slice_bounds-fill-end c = words_inside _ _ _ (sym c.in_ok-check_lengths.ensures) c.word_count.ensures
