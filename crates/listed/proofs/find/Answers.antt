@@ -1,7 +1,6 @@
 -- `listed::find` meets its contract: the tests that led to each return say which rung of `listed_row` answers (proofs/ListedRungs).
 use mathlib.Core.Path.{refl, ap, ◌∙◌}
 use Prim.Native.Nat.{ℕ, ◌<◌, min}
-use native.Mathlib.Nat.{mod-le}
 use native.Mathlib.Omega.{arith}
 use lib.ListN.{get_or}
 use Rattle.std.proofs.lemmas.Result.{err_from_is_err_and}

@@ -1,5 +1,5 @@
 -- `listed::lies_on` meets its contract: a page's bounds say whether a place lies on it (proofs/SamePage).
-use Rattle.listed.proofs.SamePage.{before_page, page_test}
+use Rattle.listed.proofs.SamePage.{page_test}
 use Rattle.listed.proofs.lies_on.Goals as goal
 
 pub returns : goal.returns
