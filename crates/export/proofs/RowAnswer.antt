@@ -1,17 +1,15 @@
 -- The question for one row, from what the walk counted: which case of `settle_row` it is. Rules 5.23 and 5.24.
---     row_found, full_none, waiting_none, row_refused     row k is among the rows found, or not; the walk is refused
---     by_row                                              any answer about a row goes by the row
+--     row_found     row k is among the rows found
+--     by_row        any answer about a row goes by the row
 use mathlib.Core.Path.{◌≡◌, refl}
-use Prim.Native.Nat.{ℕ, ◌<◌, ◌≤◌}
+use Prim.Native.Nat.{ℕ, ◌<◌}
 use lib.ListN.{length}
 use lib.Dec.{ltb}
-use borrow.Author.Tests.{lt-ltb, le-ltb}
+use borrow.Author.Tests.{lt-ltb}
 use Rattle.lists.specs.Alias.{Places}
 use Rattle.page.specs.declared.Row.{Row}
 use Rattle.page.specs.Found.{Rows, no_row}
 use Rattle.lists.specs.Nth.{nth}
-use Rattle.refusal.specs.declared.Fault.{Fault}
-use Rattle.refusal.specs.Fault.{fault}
 use Rattle.refusal.specs.Answer.{Answer, given, refused}
 use Rattle.chain.specs.Walk.{Progress, Walk, full, waiting}
 use Rattle.chain.specs.Tally.{rows_counted, pages_counted, tally}
@@ -32,26 +30,6 @@ module _ (size k : ℕ) where
       let same : progress ≡ waiting page (length rows) q = cc in
       rw (same, p.0, lt-ltb k (length rows) (rw same at h))
   row_found rows_of places_of (refused f) e h p = never (cc)
-
-  pub full_none : (w : Walk Rows) {n pages : ℕ} → given (full n pages) ≡ tally w → n ≤ k → refused (fault 18 0) ≡ settle_row (row_at size) k w
-  full_none (given (full rows q)) {n} {pages} e h = let count : length rows ≡ n = cc in rw (count, le-ltb k n h)
-  full_none (given (waiting page rows q)) e h = never (cc)
-  full_none (refused f) e h = never (cc)
-
-  pub waiting_none : (w : Walk Rows) {page n pages : ℕ} → given (waiting page n pages) ≡ tally w → n ≤ k
-      → given (row.waiting page n pages) ≡ settle_row (row_at size) k w
-  waiting_none (given (full rows q)) e h = never (cc)
-  waiting_none (given (waiting at rows q)) {page} {n} {pages} e h =
-      let count : length rows ≡ n = cc in
-      let same : q ≡ pages = cc in
-      let here : at ≡ page = cc in
-      rw (count, le-ltb k n h, same, here)
-  waiting_none (refused f) e h = never (cc)
-
-  pub row_refused : (w : Walk Rows) {f : Fault} → refused f ≡ tally w → refused f ≡ settle_row (row_at size) k w
-  row_refused (given (full rows q)) e = never (cc)
-  row_refused (given (waiting page rows q)) e = never (cc)
-  row_refused (refused g) {f} e = let same : f ≡ g = cc in rw same
 
   pub by_row : {A : Type 0} (answer : SizedRow → Answer (row.Found A)) (w : Walk Rows)
       → row.then_found (settle_row (row_at size) k w) answer ≡ settle_row (λ (found : Row). answer (sized_row size found)) k w

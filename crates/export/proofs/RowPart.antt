@@ -1,6 +1,6 @@
 -- Rule 5.8: a row's own part is no longer than its page, so the place of a text in it fits 64 bits.
 --     part_room                 the part, and with it the row's start
---     start_room, text_room     the sums of `text_at`
+--     text_room                 the sum of `text_at`
 use Prim.Native.Nat.{ℕ, ◌+◌, ◌*◌, ◌^◌, ◌<◌, ◌≤◌}
 use native.Mathlib.Nat.{mul-le-mul}
 use native.Mathlib.Omega.{arith}
@@ -18,12 +18,6 @@ unfolding row_part
 part_room size image row =
     let page = page_part size image row.page in
     omega (arith, length-drop row.start (before_index page), before_short page, part_short image size row.page)
-
-pub start_room : (number size start : ℕ) → number < 2 ^ 32 → size < 2 ^ 32 → start < 2 ^ 32 → number * size + start < 2 ^ 64
-start_room number size start n s k =
-    let least : number ≤ 0xffff_ffff = omega arith in
-    let most : size ≤ 0xffff_ffff = omega arith in
-    omega (arith, mul-le-mul least most)
 
 pub text_room : (number size start at : ℕ) → number < 2 ^ 32 → size < 2 ^ 32 → start < 2 ^ 32 → at ≤ size → number * size + start + at < 2 ^ 64
 text_room number size start at n s k a =

@@ -2,14 +2,8 @@
 use native.Mathlib.Omega.{arith}
 use Rattle.row.proofs.SlotInside.{slot_inside}
 use Rattle.chain.proofs.PagePart.{start_at}
-use Rattle.export.proofs.RowPart.{part_room, start_room, text_room}
+use Rattle.export.proofs.RowPart.{part_room, text_room}
 use Rattle.export.proofs.text_at.Goals as goal
-
-pub overflow_add-result : goal.overflow_add-result
-overflow_add-result c =
-    let at = c.args.at in
-    let begin = start_at at.size at.row.page c.new.ensures in
-    omega (arith, start_room at.row.page at.size at.row.start (omega arith) (omega arith) (omega arith))
 
 pub overflow_add-result-in-Some : goal.overflow_add-result-in-Some
 overflow_add-result-in-Some c =
@@ -20,12 +14,3 @@ overflow_add-result-in-Some c =
     let short = rw (← c.row_part.ensures) at (part_room at.size a.image.now at.row) in
     let place = c.in-Some.text.place in
     omega (arith, begin, text_room at.row.page at.size at.row.start place (omega arith) (omega arith) (omega arith) (omega (arith, inside, short)))
-
-pub returns-in-Some : goal.returns-in-Some
-returns-in-Some c =
-    let at = c.args.at in
-    let begin = start_at at.size at.row.page c.new.ensures in
-    rw (← c.row_part.ensures, ← c.slot_text.ensures, c.in-Some.is, begin)
-
-pub returns-in-None : goal.returns-in-None
-returns-in-None c = rw (← c.row_part.ensures, ← c.slot_text.ensures, c.in-None.is)

@@ -2,7 +2,7 @@
 use mathlib.Core.Path.{sym, ◌∙◌, refl}
 use Prim.Native.Nat.{◌-◌}
 use native.Mathlib.Omega.{arith}
-use lib.Seq.{take_all, length-take-le}
+use lib.Seq.{take_all}
 use lib.ListN.{length}
 use Rattle.intake.specs.Memory.{block_at}
 use Rattle.table_walk.proofs.first_block.Goals as goal
@@ -12,9 +12,6 @@ unfolding block_at
 returns-then-image-lt-SIZE c =
     let image = c.args.image.now in
     take_all (length image - 0) image (omega arith) ∙ sym (take_all 512 image (omega (arith, c.if-image-lt-SIZE.true)))
-
-pub slice_bounds-result-end-2 : goal.slice_bounds-result-end-2
-slice_bounds-result-end-2 c = sym (length-take-le 512 c.args.image.now (omega (arith, c.if-image-lt-SIZE.false)))
 
 pub returns : goal.returns
 unfolding block_at
