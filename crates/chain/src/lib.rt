@@ -16,6 +16,7 @@ ghost use Rattle.chain.specs.Chain.{chain_walk, chain_rows, chain_places};
 
 use directory::{Chain, Directory};
 use format::{Block, Page};
+use intake::Memory;
 use page::Row;
 use refusal::Refusal;
 use table::Table;
@@ -135,8 +136,8 @@ fn is_again(page: u32, mark: u32, pages: u64, page_count: u64) -> bool
 
 // Walks a chain. The pages met are not kept: the walk counts, and keeps one page as a mark, a later one each time the
 // pages walked have doubled, so that a loop of any length meets the mark again after a few turns.
-fn walk_chain(chain: Chain, table: Table, image: &[u8], map: &[u64]) -> Result<Walked, Refusal>
-    ensures { walked_of result ≡ tally (walk_from (file_pages chain table image.now map.now) chain.first_page) }
+fn walk_chain(chain: Chain, table: Table, memory: Memory) -> Result<Walked, Refusal>
+    ensures { walked_of result ≡ tally (walk_from (file_pages chain table memory.entry.image.now memory.entry.map.now) chain.first_page) }
 {
     let mut page = chain.first_page;
     let mut holder: u32 = 0;
@@ -147,10 +148,10 @@ fn walk_chain(chain: Chain, table: Table, image: &[u8], map: &[u64]) -> Result<W
         if is_again(page, mark, pages, chain.page_count) {
             return Err(Refusal::ChainLoop);
         }
-        if !is_held(chain.len_page, page, map) {
+        if !is_held(chain.len_page, page, memory.map) {
             return Ok(Walked::Waiting { page, rows, pages });
         }
-        let bytes = part(image, page, chain.len_page);
+        let bytes = part(memory.image, page, chain.len_page);
         rows += page::read(bytes, page, table)?;
         pages += 1;
         if page == chain.last_page {
@@ -166,16 +167,11 @@ fn walk_chain(chain: Chain, table: Table, image: &[u8], map: &[u64]) -> Result<W
 }
 
 // Walks the chain of a table.
-pub fn walk(
-    directory: Directory,
-    table: Table,
-    image: &[u8],
-    map: &[u64],
-) -> Result<Walked, Refusal>
-    ensures { walked_of result ≡ tally (chain_walk table image.now map.now (chain_in directory table)) }
+pub fn walk(directory: Directory, table: Table, memory: Memory) -> Result<Walked, Refusal>
+    ensures { walked_of result ≡ tally (chain_walk table memory.entry.image.now memory.entry.map.now (chain_in directory table)) }
 {
     let chain = directory.chain(table)?;
-    walk_chain(chain, table, image, map)
+    walk_chain(chain, table, memory)
 }
 
 // Writes the places of a page's rows to the front of the list, as many as it takes, and counts them.

@@ -197,15 +197,7 @@ fn find_element(
         (listed_row file.len_page file.page_count table memory.entry.image.now memory.entry.map.now list.now i) (row_at file.len_page) }
 {
     let size = file.len_page;
-    let found = listed::find(
-        size,
-        file.page_count,
-        table,
-        memory.image,
-        memory.map,
-        list,
-        i,
-    )?;
+    let found = listed::find(size, file.page_count, table, memory, list, i)?;
     Ok(found.map(|row| SizedRow { row, size }))
 }
 

@@ -7,6 +7,7 @@ ghost use Rattle.listed.specs.Listed.{listed_row, listed_of};
 
 use chain::Reply;
 use format::Page;
+use intake::Memory;
 use page::Row;
 use refusal::Refusal;
 use table::Table;
@@ -42,12 +43,11 @@ pub fn find(
     size: u32,
     page_count: u64,
     table: Table,
-    image: &[u8],
-    map: &[u64],
+    memory: Memory,
     list: &[u32],
     i: usize,
 ) -> Result<Reply<Row>, Refusal>
-    ensures { listed_of result ≡ listed_row size page_count table image.now map.now list.now i }
+    ensures { listed_of result ≡ listed_row size page_count table memory.entry.image.now memory.entry.map.now list.now i }
 {
     if list.len() <= i {
         return Err(Refusal::NoRow);
@@ -60,11 +60,11 @@ pub fn find(
     if !Page::linkable(page_count, page) {
         return Err(Refusal::NoRow);
     }
-    if !chain::is_held(size, page, map) {
+    if !chain::is_held(size, page, memory.map) {
         return Ok(Reply::waiting(page));
     }
     let rank = run_before(list, i, place - place % size, size);
-    let bytes = chain::part(image, page, size);
+    let bytes = chain::part(memory.image, page, size);
     let row = page::read_row(bytes, page, table, place % size, rank)?;
     Ok(Reply::Found(row))
 }

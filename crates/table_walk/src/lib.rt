@@ -73,7 +73,7 @@ pub fn walk_table(len: u64, memory: Memory, table: Table) -> TableWalked
     }
     match Directory::read(first_block(memory.image), len) {
         Some(directory) => TableWalked {
-            walked: chain::walk(directory, table, memory.image, memory.map),
+            walked: chain::walk(directory, table, memory),
             directory,
         },
         None => TableWalked {

@@ -56,17 +56,17 @@ returns-in_err-rows c =
 pub overflow_add-rows : goal.overflow_add-rows
 overflow_add-rows c =
     let here = turn c.loop-chain.invariant c.linkable.ensures c.loop-chain-test.true c.is_again.ensures c.if-is_again.false c.is_held.ensures c.if-not-is_held.false in
-    record { fits = rows_room here.going here.left (count c.args.chain.len_page c.args.image.now c.loop-chain.page c.args.table (omega arith) c.part-bytes.ensures c.read.ensures c.in_ok-rows.was).1 }
+    record { fits = rows_room here.going here.left (count c.args.chain.len_page c.args.memory.image.now c.loop-chain.page c.args.table (omega arith) c.part-bytes.ensures c.read.ensures c.in_ok-rows.was).1 }
 
 pub returns-then-page-chain : goal.returns-then-page-chain
 returns-then-page-chain c =
     let here = turn c.loop-chain.invariant c.linkable.ensures c.loop-chain-test.true c.is_again.ensures c.if-is_again.false c.is_held.ensures c.if-not-is_held.false in
-    at_last here.going here.inside here.held (count c.args.chain.len_page c.args.image.now c.loop-chain.page c.args.table (omega arith) c.part-bytes.ensures c.read.ensures c.in_ok-rows.was).0 (eq-eqb _ _ c.if-page-chain.true)
+    at_last here.going here.inside here.held (count c.args.chain.len_page c.args.memory.image.now c.loop-chain.page c.args.table (omega arith) c.part-bytes.ensures c.read.ensures c.in_ok-rows.was).0 (eq-eqb _ _ c.if-page-chain.true)
 
 pub loop-chain-preserved : goal.loop-chain-preserved
 loop-chain-preserved c =
     let here = turn c.loop-chain.invariant c.linkable.ensures c.loop-chain-test.true c.is_again.ensures c.if-is_again.false c.is_held.ensures c.if-not-is_held.false in
-    let found = count c.args.chain.len_page c.args.image.now c.loop-chain.page c.args.table (omega arith) c.part-bytes.ensures c.read.ensures c.in_ok-rows.was in
+    let found = count c.args.chain.len_page c.args.memory.image.now c.loop-chain.page c.args.table (omega arith) c.part-bytes.ensures c.read.ensures c.in_ok-rows.was in
     let next = part_next _ _ _ c.part-bytes.ensures c.next-page.ensures in
     onward here.going here.inside here.held found.0 (omega arith) here.left found.1 (ne_eqb _ _ c.if-page-chain.false) next
     (elim c.if-pages-eq1.branch [ then-pages-eq1 w ↦ inr w.mark-is | else-pages-eq1 w ↦ inl w.mark-is ])

@@ -6,7 +6,7 @@ use Rattle.chain.proofs.walk_chain.Given as goal
 
 abbrev pub invariant-loop-chain : goal.invariant-loop-chain
 invariant-loop-chain l =
-    Going (file_pages l.chain l.table l.image l.map) l.chain.first_page l.rows l.pages l.mark l.holder l.page
+    Going (file_pages l.chain l.table l.memory.image.now l.memory.map.now) l.chain.first_page l.rows l.pages l.mark l.holder l.page
 
 abbrev pub decreases-loop-chain : goal.decreases-loop-chain
 decreases-loop-chain l =
