@@ -1,20 +1,19 @@
 -- A page's part of the image (specs/File), as `part` takes it, and its next page. Rules 3.10 and 4.16.
---     part_past, part_cut, part_whole     the slices that the code borrows
---     part_short                          the part is no longer than len_page
---     part_next                           next_page, read from the part
---     page-of, start_of                   a place by its page and its start there
-use mathlib.Core.Path.{◌≡◌, ap, sym, ◌∙◌}
+--     part_whole           the part that the code borrows
+--     part_short           the part is no longer than len_page
+--     part_next            next_page, read from the part
+--     page-of, start_of    a place by its page and its start there
+use mathlib.Core.Path.{◌≡◌, ap, ◌∙◌}
 use Prim.Native.Nat.{ℕ, ◌+◌, ◌-◌, ◌*◌, ◌/◌, ◌%◌, ◌<◌, ◌≤◌}
 use native.Mathlib.Nat.{div-add-mod', div-eq_of_lt-le, suc-mul}
 use native.Mathlib.Omega.{arith}
-use lib.ListN.{length, take, drop, length-drop, length-take, drop_of_length-le}
-use lib.Seq.{take_all, take-nil}
+use lib.ListN.{length, take, drop, length-take}
 use Rattle.lists.specs.Alias.{Bytes}
 use Rattle.format.specs.declared.Page.{Page}
 use Rattle.format.specs.Place.{page_bounds}
 use Rattle.page.specs.Header.{next_page}
 use Rattle.chain.specs.File.{page_part, page_next}
-use Rattle.lists.proofs.Part.{part_rest, part_sized}
+use Rattle.lists.proofs.Part.{part_sized}
 
 module _ {place : Page} (size number : ℕ) (e : place ≡ page_bounds number size) where
   pub start_at : place.start ≡ number * size
@@ -24,19 +23,6 @@ module _ {place : Page} (size number : ℕ) (e : place ≡ page_bounds number si
   end_at = ap (λ (p : Page). p.end) e
 
 module _ {place : Page} (image : Bytes) (size number : ℕ) (e : place ≡ page_bounds number size) where
-  pub part_past : length image < place.start → take (length image - length image) (drop (length image) image) ≡ page_part size image number
-  unfolding page_part
-  part_past h =
-      let past : length image ≤ number * size = omega (arith, start_at size number e) in
-      let none : length image - length image ≡ 0 = omega arith in
-      rw (none, drop_of_length-le image past, take-nil size)
-
-  pub part_cut : length image < place.end → take (length image - place.start) (drop place.start image) ≡ page_part size image number
-  unfolding page_part
-  part_cut h =
-      part_rest image place.start
-      ∙ rw (start_at size number e) (sym (take_all size (drop (number * size) image) (omega (arith, end_at size number e, length-drop (number * size) image))))
-
   pub part_whole : take (place.end - place.start) (drop place.start image) ≡ page_part size image number
   unfolding page_part
   part_whole = rw (start_at size number e, end_at size number e) (part_sized image (number * size) size)

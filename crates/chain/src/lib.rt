@@ -109,16 +109,7 @@ pub fn part(image: &[u8], number: u32, size: u32) -> &[u8]
     ensures { result.now ≡ page_part size image.now number }
 {
     let page = Page::new(number, size);
-    let start = page.start;
-    let end = page.end;
-    if image.len() < start {
-        let none = image.len();
-        return &image[none..];
-    }
-    if image.len() < end {
-        return &image[start..];
-    }
-    &image[start..end]
+    lists::subslice(image, page.start, page.end)
 }
 
 // Whether a page has been met before, as far as can be told: it is the mark, or so many pages were walked that no other is left.

@@ -47,13 +47,11 @@ pub fn asked_slot(
 }
 
 // Block 0, as far as the image has it.
+#[tactic(auto, unfolding(intake::specs::Memory::block_at))]
 pub fn first_block(image: &[u8]) -> &[u8]
     ensures { result.now ≡ block_at image.now 0 }
 {
-    if image.len() < Block::SIZE {
-        return &image[0..];
-    }
-    &image[..Block::SIZE]
+    lists::subslice(image, 0, Block::SIZE)
 }
 
 // The walk for a table of a file of len bytes. The header is read here, once for a question.
