@@ -7,7 +7,6 @@ ghost use Rattle.std.specs.Fn.{FnOnceReturnsAt};
 ghost use Rattle.lists.specs.Nth.{nth};
 ghost use Rattle.refusal.specs.Answer.{answer_of, given};
 ghost use Rattle.intake.specs.Memory.{memory_of, block_at};
-ghost use Rattle.intake.specs.Private.{Sound};
 ghost use Rattle.directory.specs.Chain.{chain_in};
 ghost use Rattle.page.specs.Found.{no_row};
 ghost use Rattle.chain.specs.Chain.{chain_rows};
@@ -25,7 +24,7 @@ ghost use Rattle.export.specs.Private.{OnceHeld, row_at, at_row, row_reply_of, r
 use chain::{Reply, Walked};
 use directory::Directory;
 use format::Page;
-use intake::{Intake, Memory};
+use intake::{Checked, Intake, Memory};
 use page::Row;
 use refusal::Refusal;
 use row::Record;
@@ -103,19 +102,19 @@ fn bounds_in(block: &[u8], len: u64, table: Table) -> Result<TableBounds, Refusa
 }
 
 // The answer to a question for all rows of a table, with the places written.
-fn rows_of(len: u64, memory: Memory, table: Table, list: &mut [u32]) -> Result<Walked, Refusal>
-    requires { Sound len (memory_of memory) }
+fn rows_of(file: Checked, table: Table, list: &mut [u32]) -> Result<Walked, Refusal>
     ensures { rows_of result list.new ≡
-        settle_rows (page_size (memory_of memory.entry)) list.old
-        (table_walk len (memory_of memory.entry) table) }
+        settle_rows (page_size (memory_of file.entry.memory)) list.old
+        (table_walk file.entry.intake.len (memory_of file.entry.memory) table) }
 {
-    let walk = table_walk::walk_table(len, memory, table);
+    let image = file.memory.image;
+    let walk = table_walk::walk_table(file.intake.len, file.memory, table);
     let walked = walk.walked?;
     let rows = walked.rows();
     if list.len() < rows {
         return Err(Refusal::ListShort(rows));
     }
-    chain::fill(walk.directory, table, walked.pages(), memory.image, list);
+    chain::fill(walk.directory, table, walked.pages(), image, list);
     Ok(walked)
 }
 
@@ -130,7 +129,8 @@ pub fn rows(
         ask_rows intake.len (memory_of memory.entry) number list.old }
 {
     let table = table_walk::asked(intake, memory, number)?;
-    rows_of(intake.len, memory, table, list)
+    let file = Checked { intake, memory };
+    rows_of(file, table, list)
 }
 
 // The own part of a row: from its start to its page's row index.
@@ -166,20 +166,14 @@ fn row_at(
 }
 
 // Row k of a table.
-fn find_row(len: u64, memory: Memory, table: Table, k: usize) -> Result<Reply<SizedRow>, Refusal>
-    requires { Sound len (memory_of memory) }
-    ensures { row_reply_of result ≡ settle_row (row_at (page_size (memory_of memory.entry))) k
-        (table_walk len (memory_of memory.entry) table) }
+fn find_row(file: Checked, table: Table, k: usize) -> Result<Reply<SizedRow>, Refusal>
+    ensures { row_reply_of result ≡ settle_row (row_at (page_size (memory_of file.entry.memory))) k
+        (table_walk file.entry.intake.len (memory_of file.entry.memory) table) }
 {
-    let walk = table_walk::walk_table(len, memory, table);
+    let image = file.memory.image;
+    let walk = table_walk::walk_table(file.intake.len, file.memory, table);
     match walk.walked? {
-        walked if k < walked.rows() => row_at(
-            walk.directory,
-            memory.image,
-            table,
-            walked.pages(),
-            k,
-        ),
+        walked if k < walked.rows() => row_at(walk.directory, image, table, walked.pages(), k),
         Walked::Full { .. } => Err(Refusal::NoRow),
         Walked::Waiting { page, rows, pages } => Ok(Reply::Waiting { page, rows, pages }),
     }
@@ -240,7 +234,8 @@ pub fn record(
     ensures { record_reply_of result ≡ ask_record intake.len (memory_of memory.entry) number k }
 {
     let table = table_walk::asked(intake, memory, number)?;
-    Ok(find_row(intake.len, memory, table, k)?.map(|at| record_on(table, memory.image, at)))
+    let file = Checked { intake, memory };
+    Ok(find_row(file, table, k)?.map(|at| record_on(table, memory.image, at)))
 }
 
 // The record of the row that element i of a list names. Of the table one page is read.
@@ -290,7 +285,8 @@ pub fn text(
     ensures { text_reply_of result ≡ ask_text intake.len (memory_of memory.entry) number k slot }
 {
     let table = table_walk::asked_slot(intake, memory, number, slot)?;
-    find_row(intake.len, memory, table, k)?.and_then(|at| text_at(table, memory.image, slot, at))
+    let file = Checked { intake, memory };
+    find_row(file, table, k)?.and_then(|at| text_at(table, memory.image, slot, at))
 }
 
 // The text of a string slot of the row that element i of a list names. Of the table one page is read.

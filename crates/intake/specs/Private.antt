@@ -1,4 +1,4 @@
--- Definitions that only the contracts of private functions and the proofs cite.
+-- Definitions that only the struct Checked, the contracts of private functions and the proofs cite.
 use Rattle.std.specs.Prelude.{◌≡◌, true, false, ℕ, ◌+◌, ◌<◌, ◌≤◌, Result}
 use Rattle.lists.specs.Alias.{Bytes, Words}
 use Rattle.refusal.specs.Answer.{Answer, given, refused, answer_as}

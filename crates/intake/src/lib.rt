@@ -42,6 +42,14 @@ pub struct Memory<'a> {
     pub map: &'a [u64],
 }
 
+// An intake with its buffers, past refusals 1 to 4.
+#[derive(Clone, Copy)]
+pub struct Checked<'a> {
+    pub intake: Intake,
+    pub memory: Memory<'a>,
+    pub ghost sound: { Sound intake.len (memory_of memory) },
+}
+
 // What an opening gives: the intake, and how many blocks the file has.
 #[derive(Clone, Copy, Debug, PartialEq, Eq)]
 pub struct Opened {
@@ -122,22 +130,21 @@ pub fn open(len: u64, image: &[u8], map: &mut [u64]) -> Result<Opened, Refusal>
 }
 
 // The verdict on a delivery past refusals 1 to 4.
-fn judge_block(len: u64, memory: Memory, block: u64, piece: &[u8]) -> Result<Judged, Refusal>
-    requires { Sound len (memory_of memory) }
-    ensures { judged_of result ≡ verdict len (memory_of memory.entry) block piece.now }
+fn judge_block(file: Checked, block: u64, piece: &[u8]) -> Result<Judged, Refusal>
+    ensures { judged_of result ≡ verdict file.entry.intake.len (memory_of file.entry.memory) block piece.now }
 {
-    if bitmap::block_count(len) <= block {
+    if bitmap::block_count(file.intake.len) <= block {
         return Err(Refusal::BlockNumber);
     }
     if piece.len() != Block::SIZE {
         return Err(Refusal::PieceSize);
     }
-    if !bitmap::has_bit(memory.map, block) {
+    if !bitmap::has_bit(file.memory.map, block) {
         return Ok(Judged::New);
     }
     let start = (block as usize) * Block::SIZE;
     let end = start + Block::SIZE;
-    if &memory.image[start..end] == piece {
+    if &file.memory.image[start..end] == piece {
         Ok(Judged::Same)
     } else {
         Err(Refusal::BlockDiffers)
@@ -158,17 +165,18 @@ fn store(image: &mut [u8], map: &mut [u64], block: u64, piece: &[u8])
 
 // The verdict on a delivery past refusals 1 to 4: a new block is stored, and nothing else changes the image and the map.
 fn take_block(
-    len: u64,
+    intake: Intake,
     image: &mut [u8],
     map: &mut [u64],
     block: u64,
     piece: &[u8],
 ) -> Result<Judged, Refusal>
-    requires { Sound len (memory image.old map.old) }
+    requires { Sound intake.len (memory image.old map.old) }
     ensures { judgement_of result image.new map.new
-        ≡ judged len (memory image.old map.old) block piece.now }
+        ≡ judged intake.len (memory image.old map.old) block piece.now }
 {
-    match judge_block(len, Memory { image, map }, block, piece)? {
+    let memory = Memory { image, map };
+    match judge_block(Checked { intake, memory }, block, piece)? {
         Judged::New => {
             store(image, map, block, piece);
             Ok(Judged::New)
@@ -200,7 +208,7 @@ pub fn deliver(
         ≡ delivery intake.len (memory image.old map.old) block piece.now }
 {
     check(intake, Memory { image, map })?;
-    let verdict = take_block(intake.len, image, map, block, piece)?;
+    let verdict = take_block(intake, image, map, block, piece)?;
     Ok(with_count(intake.len, map, verdict))
 }
 
@@ -217,24 +225,24 @@ fn result(verdict: Result<Judged, Refusal>) -> u32
 
 // Takes in each block of a packet, and writes its result to the list.
 fn take_blocks(
-    len: u64,
+    intake: Intake,
     image: &mut [u8],
     map: &mut [u64],
     blocks: &[u64],
     pieces: &[u8],
     results: &mut [u32],
 )
-    requires { Sound len (memory image.old map.old) × (length pieces.now ≡ length blocks.now * block_size)
+    requires { Sound intake.len (memory image.old map.old) × (length pieces.now ≡ length blocks.now * block_size)
         × (length blocks.now ≤ length results.old) }
     ensures map_after { memory image.new map.new
-        ≡ after_each len (memory image.old map.old) (paired blocks.now pieces.now) }
+        ≡ after_each intake.len (memory image.old map.old) (paired blocks.now pieces.now) }
     ensures results_after { results.new ≡ written results.old
-        (results_of_each len (memory image.old map.old) (paired blocks.now pieces.now)) }
+        (results_of_each intake.len (memory image.old map.old) (paired blocks.now pieces.now)) }
 {
     for (i, block) in blocks.iter().enumerate() {
         let start = i * Block::SIZE;
         let end = start + Block::SIZE;
-        let verdict = take_block(len, image, map, *block, &pieces[start..end]);
+        let verdict = take_block(intake, image, map, *block, &pieces[start..end]);
         results[i] = result(verdict);
     }
 }
@@ -289,7 +297,7 @@ pub fn deliver_packet(
         ≡ packet intake.len (memory image.old map.old) blocks.now pieces.now results.old }
 {
     check_packet(intake, Memory { image, map }, blocks, pieces, results)?;
-    take_blocks(intake.len, image, map, blocks, pieces, results);
+    take_blocks(intake, image, map, blocks, pieces, results);
     Ok(bitmap::held_count(intake.len, map))
 }
 

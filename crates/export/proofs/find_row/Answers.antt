@@ -6,7 +6,7 @@ use Rattle.export.proofs.find_row.Goals as goal
 pub returns-then-k-rows : goal.returns-then-k-rows
 returns-then-k-rows c =
     let a = c.args in
-    let m = memory_of a.memory in
+    let m = memory_of a.file.memory in
     let counted = rw c.in_ok-walked.was at c.walk_table-walk.ensures.0 in
-    table_row a.len m a.table c.requires c.walk_table-walk.ensures.1 counted a.k (rw c.rows.ensures at c.if-k-rows.true)
+    table_row a.file.intake.len m a.table a.file.sound c.walk_table-walk.ensures.1 counted a.k (rw c.rows.ensures at c.if-k-rows.true)
     (rw c.pages.ensures at c.row_at.ensures)

@@ -20,10 +20,10 @@ returns-in_err-table c =
     let passed = err_from_is_err_and c.from_residual.result c.from_residual.ensures.1 in
     rw (passed.1, passed.2, ← c.in_err-table.ensures)
 
-pub find_row-requires : goal.find_row-requires
-find_row-requires c =
+pub invariant_of-file : goal.invariant_of-file
+invariant_of-file c =
     let a = c.args in
-    asked_sound a.intake.len (memory_of a.memory) a.number c.in_ok-table.ensures
+    record { sound = asked_sound a.intake.len (memory_of a.memory) a.number c.in_ok-table.ensures }
 
 pub returns-in_err-find_row : goal.returns-in_err-find_row
 unfolding ask_record

@@ -11,10 +11,10 @@ returns-in_err-table c =
     let passed = err_from_is_err_and c.from_residual.result c.from_residual.ensures.1 in
     rw (passed.1, passed.2, ← c.in_err-table.ensures)
 
-pub rows_of-requires : goal.rows_of-requires
-rows_of-requires c =
+pub invariant_of-file : goal.invariant_of-file
+invariant_of-file c =
     let a = c.args in
-    asked_sound a.intake.len (memory_of a.memory) a.number c.in_ok-table.ensures
+    record { sound = asked_sound a.intake.len (memory_of a.memory) a.number c.in_ok-table.ensures }
 
 pub returns : goal.returns
 unfolding ask_rows

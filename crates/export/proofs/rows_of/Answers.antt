@@ -6,7 +6,7 @@ use Rattle.export.proofs.rows_of.Goals as goal
 pub returns : goal.returns
 returns c =
     let a = c.args in
-    let m = memory_of a.memory in
+    let m = memory_of a.file.memory in
     let counted = rw c.in_ok-walked.was at c.walk_table-walk.ensures.0 in
-    table_rows a.len m a.table c.requires c.walk_table-walk.ensures.1 counted a.list.now (rw c.rows-rows.ensures at c.if-list-rows.false)
+    table_rows a.file.intake.len m a.table a.file.sound c.walk_table-walk.ensures.1 counted a.list.now (rw c.rows-rows.ensures at c.if-list-rows.false)
     (rw c.pages.ensures at c.fill.ensures)

@@ -23,10 +23,10 @@ returns-in_err-table c =
     let passed = err_from_is_err_and c.from_residual.result c.from_residual.ensures.1 in
     rw (passed.1, passed.2, ← slot_then a.slot (λ table. settle_row (text_at m table a.slot) a.k (table_walk a.intake.len m table)) (asked_table a.intake.len m a.number), ← c.in_err-table.ensures)
 
-pub find_row-requires : goal.find_row-requires
-find_row-requires c =
+pub invariant_of-file : goal.invariant_of-file
+invariant_of-file c =
     let a = c.args in
-    slot_sound a.intake.len (memory_of a.memory) a.number a.slot c.in_ok-table.ensures
+    record { sound = slot_sound a.intake.len (memory_of a.memory) a.number a.slot c.in_ok-table.ensures }
 
 pub returns-in_err-find_row : goal.returns-in_err-find_row
 unfolding ask_text

@@ -4,4 +4,4 @@ use Rattle.intake.proofs.PacketFold.{Turn}
 use Rattle.intake.proofs.take_blocks.Given as goal
 
 abbrev pub invariant-loop-i : goal.invariant-loop-i
-invariant-loop-i l = Turn l.len (memory l.initial.image l.initial.map) l.blocks l.pieces l.initial.results (memory l.image l.map) l.results l.i
+invariant-loop-i l = Turn l.intake.len (memory l.initial.image l.initial.map) l.blocks l.pieces l.initial.results (memory l.image l.map) l.results l.i
