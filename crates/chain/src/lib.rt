@@ -7,7 +7,6 @@ ghost use Rattle.lists.specs.Write.{written};
 ghost use Rattle.directory.specs.Chain.{chain_in};
 ghost use Rattle.chain.specs.Walk.{walk_from};
 ghost use Rattle.chain.specs.Tally.{rows_counted, pages_counted, tally, progress_of, walked_of};
-ghost use Rattle.chain.specs.Found.{MapsFound, FollowsFound};
 ghost use Rattle.chain.specs.Held.{page_held};
 ghost use Rattle.page.specs.Found.{no_row};
 ghost use Rattle.page.specs.Row.{row_at_of};
@@ -66,31 +65,6 @@ impl<T> Reply<T> {
             page,
             rows: 0,
             pages: 0,
-        }
-    }
-
-    // What becomes of what was found.
-    pub fn map<U, F: FnOnce(T) -> U>(self, becomes: F) -> Reply<U>
-        requires { F.IsAlwaysCallable becomes }
-        ensures { MapsFound (F.post becomes) self result }
-    {
-        match self {
-            Reply::Found(found) => Reply::Found(becomes(found)),
-            Reply::Waiting { page, rows, pages } => Reply::Waiting { page, rows, pages },
-        }
-    }
-
-    // What follows where something was found.
-    pub fn and_then<U, E, F: FnOnce(T) -> Result<Reply<U>, E>>(
-        self,
-        follows: F,
-    ) -> Result<Reply<U>, E>
-        requires { F.IsAlwaysCallable follows }
-        ensures { FollowsFound (F.post follows) self result }
-    {
-        match self {
-            Reply::Found(found) => follows(found),
-            Reply::Waiting { page, rows, pages } => Ok(Reply::Waiting { page, rows, pages }),
         }
     }
 }

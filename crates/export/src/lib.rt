@@ -10,7 +10,7 @@ ghost use Rattle.intake.specs.Memory.{memory_of, block_at};
 ghost use Rattle.directory.specs.Chain.{chain_in};
 ghost use Rattle.page.specs.Found.{no_row};
 ghost use Rattle.chain.specs.Chain.{chain_rows};
-ghost use Rattle.chain.specs.Found.{found, then_found};
+ghost use Rattle.chain.specs.Found.{found, then_found, MapsFound, FollowsFound};
 ghost use Rattle.listed.specs.Listed.{listed_row};
 ghost use Rattle.table_walk.specs.Walk.{page_size, table_walk};
 ghost use Rattle.export.specs.Rows.{settle_rows, ask_rows, rows_of};
@@ -58,6 +58,31 @@ pub struct FileLayout {
 pub struct TableBounds {
     pub first_page: u32,
     pub last_page: u32,
+}
+
+// What becomes of what was found.
+fn map_found<T, U, F: FnOnce(T) -> U>(reply: Reply<T>, becomes: F) -> Reply<U>
+    requires { F.IsAlwaysCallable becomes }
+    ensures { MapsFound (F.post becomes) reply result }
+{
+    match reply {
+        Reply::Found(found) => Reply::Found(becomes(found)),
+        Reply::Waiting { page, rows, pages } => Reply::Waiting { page, rows, pages },
+    }
+}
+
+// What follows where something was found.
+fn and_then<T, U, F: FnOnce(T) -> Result<Reply<U>, Refusal>>(
+    reply: Reply<T>,
+    follows: F,
+) -> Result<Reply<U>, Refusal>
+    requires { F.IsAlwaysCallable follows }
+    ensures { FollowsFound (F.post follows) reply result }
+{
+    match reply {
+        Reply::Found(found) => follows(found),
+        Reply::Waiting { page, rows, pages } => Ok(Reply::Waiting { page, rows, pages }),
+    }
 }
 
 // What block 0 tells, once it is held.
@@ -137,12 +162,8 @@ pub fn rows(
 fn row_part(size: u32, image: &[u8], row: Row) -> &[u8]
     ensures { result.now ≡ row_part size image.now row }
 {
-    let start = row.start as usize;
     let before = page::before_index(chain::part(image, row.page, size));
-    if before.len() < start {
-        return &before[0..0];
-    }
-    &before[start..]
+    lists::subslice(before, row.start as usize, before.len())
 }
 
 // Row k on the first pages of a table's chain, which a walk has counted.
@@ -192,7 +213,7 @@ fn find_element(
 {
     let size = file.len_page;
     let found = listed::find(size, file.page_count, table, memory, list, i)?;
-    Ok(found.map(|row| SizedRow { row, size }))
+    Ok(map_found(found, |row| SizedRow { row, size }))
 }
 
 // The row that element i of a list names. Of block 0 the header is read, and of the rest one page.
@@ -209,7 +230,10 @@ fn find_listed(
 {
     let layout = once_held(memory, |block| layout_in(block, len))?;
     let Memory { image, map } = memory;
-    layout.and_then(|file| find_element(file, Memory { image, map }, table, list, i))
+    and_then(
+        layout,
+        |file| find_element(file, Memory { image, map }, table, list, i),
+    )
 }
 
 // The record of a row.
@@ -235,7 +259,10 @@ pub fn record(
 {
     let table = table_walk::asked(intake, memory, number)?;
     let file = Checked { intake, memory };
-    Ok(find_row(file, table, k)?.map(|at| record_on(table, memory.image, at)))
+    Ok(map_found(
+        find_row(file, table, k)?,
+        |at| record_on(table, memory.image, at),
+    ))
 }
 
 // The record of the row that element i of a list names. Of the table one page is read.
@@ -249,12 +276,12 @@ pub fn record_in(
     ensures { record_reply_of result ≡
         ask_record_in intake.len (memory_of memory.entry) number list.now i }
 {
+    let Intake { len } = intake;
     let table = table_walk::asked(intake, memory, number)?;
-    Ok(find_listed(intake.len, memory, table, list, i)?.map(|at| record_on(
-        table,
-        memory.image,
-        at,
-    )))
+    Ok(map_found(
+        find_listed(len, memory, table, list, i)?,
+        |at| record_on(table, memory.image, at),
+    ))
 }
 
 // The text of a slot of a row.
@@ -286,7 +313,10 @@ pub fn text(
 {
     let table = table_walk::asked_slot(intake, memory, number, slot)?;
     let file = Checked { intake, memory };
-    find_row(file, table, k)?.and_then(|at| text_at(table, memory.image, slot, at))
+    and_then(
+        find_row(file, table, k)?,
+        |at| text_at(table, memory.image, slot, at),
+    )
 }
 
 // The text of a string slot of the row that element i of a list names. Of the table one page is read.
@@ -302,12 +332,10 @@ pub fn text_in(
         ask_text_in intake.len (memory_of memory.entry) number list.now i slot }
 {
     let table = table_walk::asked_slot(intake, memory, number, slot)?;
-    find_listed(intake.len, memory, table, list, i)?.and_then(|at| text_at(
-        table,
-        memory.image,
-        slot,
-        at,
-    ))
+    and_then(
+        find_listed(intake.len, memory, table, list, i)?,
+        |at| text_at(table, memory.image, slot, at),
+    )
 }
 
 // Page length and number of pages of the file.

@@ -43,6 +43,6 @@ returns c =
     let m = memory_of a.memory in
     let table = c.in_ok-table.table in
     rw (← c.in_ok-table.ensures)
-    (map_then (λ (at : SizedRow). at) record_on_of (record_in table a.memory.image.now) _ c.in_ok-find_row.field-0 c.map.result c.map.ensures (λ x y q. search rules)
+    (map_then (λ (at : SizedRow). at) record_on_of (record_in table a.memory.image.now) _ c.in_ok-find_row.field-0 c.map_found.result c.map_found.ensures (λ x y q. search rules)
     ∙ ap (λ (x : Answer (Found SizedRow)). then_found x (record_in table a.memory.image.now)) c.in_ok-find_row.ensures
     ∙ by_row (page_size m) a.k (record_in table a.memory.image.now) (table_walk a.intake.len m table))

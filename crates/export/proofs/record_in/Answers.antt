@@ -38,6 +38,6 @@ returns c =
     let m = memory_of a.memory in
     let table = c.in_ok-table.table in
     rw (← c.in_ok-table.ensures)
-    (map_then (λ (at : SizedRow). at) record_on_of (record_in table a.memory.image.now) _ c.in_ok-find_listed.field-0 c.map.result c.map.ensures (λ x y q. search rules)
+    (map_then (λ (at : SizedRow). at) record_on_of (record_in table a.memory.image.now) _ c.in_ok-find_listed.field-0 c.map_found.result c.map_found.ensures (λ x y q. search rules)
     ∙ ap (λ (x : Answer (Found SizedRow)). then_found x (record_in table a.memory.image.now)) c.in_ok-find_listed.ensures
     ∙ listed-row (page_size m) (table_listed a.intake.len m a.list.now a.i table) (record_in table a.memory.image.now))
