@@ -186,17 +186,11 @@ fn deliver(
 }
 
 // Asks for all rows of a table.
-fn ask(
-    intake: Intake,
-    number: u32,
-    image: &[u8],
-    map: &[u64],
-    list: &mut [u32],
-) -> Result<Reply, Refusal>
-    ensures { step_outcome (reply_of result) (state intake.len image.now map.now list.new)
-        ≡ step (state intake.len image.now map.now list.old) (ask_table number) }
+fn ask(intake: Intake, number: u32, memory: Memory, list: &mut [u32]) -> Result<Reply, Refusal>
+    ensures { step_outcome (reply_of result) (state intake.len memory.entry.image.now memory.entry.map.now list.new)
+        ≡ step (state intake.len memory.entry.image.now memory.entry.map.now list.old) (ask_table number) }
 {
-    Ok(Reply::from(export::rows(intake, Memory { image, map }, number, list)?))
+    Ok(Reply::from(export::rows(intake, memory, number, list)?))
 }
 
 // Runs a command whose body is given.
@@ -218,7 +212,7 @@ pub fn step(
             intake,
         },
         Command::Ask(number) => Stepped {
-            reply: ask(intake, number, image, map, list),
+            reply: ask(intake, number, Memory { image, map }, list),
             intake,
         },
     }

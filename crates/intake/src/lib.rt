@@ -89,16 +89,16 @@ fn allowed(len: u64) -> bool
 
 // Refusals 1 to 3.
 #[tactic(auto, using(lists::proofs::Choice::tests), unfolding(crate::specs::Check::check_lengths))]
-fn check_lengths(len: u64, image: &[u8], map: &[u64]) -> Result<(), Refusal>
-    ensures { answer_of result ≡ check_lengths len image.now map.now (given tt) }
+fn check_lengths(len: u64, memory: Memory) -> Result<(), Refusal>
+    ensures { answer_of result ≡ check_lengths len memory.entry.image.now memory.entry.map.now (given tt) }
 {
     if !allowed(len) {
         return Err(Refusal::Length);
     }
-    if image.len() < (len as usize) {
+    if memory.image.len() < (len as usize) {
         return Err(Refusal::ImageShort);
     }
-    if map.len() < (bitmap::word_count(len) as usize) {
+    if memory.map.len() < (bitmap::word_count(len) as usize) {
         return Err(Refusal::MapShort);
     }
     Ok(())
@@ -110,7 +110,7 @@ pub fn check(intake: Intake, memory: Memory) -> Result<(), Refusal>
     ensures { answer_of result ≡ check_call intake.len (memory_of memory.entry) (given tt) }
 {
     let len = intake.len;
-    check_lengths(len, memory.image, memory.map)?;
+    check_lengths(len, memory)?;
     if bitmap::has_spare_bit(len, memory.map) {
         return Err(Refusal::MapSpare);
     }
@@ -121,7 +121,7 @@ pub fn check(intake: Intake, memory: Memory) -> Result<(), Refusal>
 pub fn open(len: u64, image: &[u8], map: &mut [u64]) -> Result<Opened, Refusal>
     ensures { opening_of result map.new ≡ opening len image.now map.old }
 {
-    check_lengths(len, image, map)?;
+    check_lengths(len, Memory { image, map })?;
     map[..bitmap::word_count(len) as usize].fill(0);
     Ok(Opened {
         intake: Intake::new(len),
