@@ -23,6 +23,7 @@ pub struct TableWalked {
 }
 
 // The table asked for, past refusals 1 to 4 and 8.
+#[tactic(auto, using(lists::proofs::Choice::tests), unfolding(crate::specs::Asked::asked_table, intake::specs::Check::check_call, intake::specs::Check::check_lengths))]
 pub fn asked(intake: Intake, memory: Memory, number: u32) -> Result<Table, Refusal>
     ensures { answer_of result ≡ asked_table intake.len (memory_of memory.entry) number }
 {
