@@ -1,7 +1,7 @@
 -- The map of the argument.
 --     RulesPassed   what is known where refusals 1 to 3, or 1 to 4, do not apply; a ladder's rest is its end or nothing
 --     OpenClears    an opening that is not refused, from what the calls of `open` give: by RulesPassed
---     EqualBytes    two lists compared byte by byte, as the loop of `same_bytes` goes
+--     EqualBytes    two lists compared byte by byte are equal or not, as `==` of slices says
 --     BlockBytes    a block's bytes in the image, and the image when a block is replaced
 --     Verdict       each verdict from its case, what a verdict tells, and the outcome of each: by RulesPassed
 --     NewAdds       what New adds, and that Same and refusals change nothing: by Verdict, BlockBytes and the bitmap's laws
