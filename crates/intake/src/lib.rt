@@ -239,10 +239,12 @@ fn take_blocks(
     ensures results_after { results.new ≡ written results.old
         (results_of_each intake.len (memory image.old map.old) (paired blocks.now pieces.now)) }
 {
-    for (i, block) in blocks.iter().enumerate() {
-        let start = i * Block::SIZE;
-        let end = start + Block::SIZE;
-        let verdict = take_block(intake, image, map, *block, &pieces[start..end]);
+    for (i, (block, piece)) in blocks
+        .iter()
+        .zip(pieces.chunks_exact(Block::SIZE))
+        .enumerate()
+    {
+        let verdict = take_block(intake, image, map, *block, piece);
         results[i] = result(verdict);
     }
 }
