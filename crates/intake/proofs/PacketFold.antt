@@ -10,7 +10,7 @@ use mathlib.Core.List.{List, [], ◌∷◌, ◌++◌}
 use Prim.Native.Nat.{ℕ, ◌+◌, ◌*◌, ◌<◌, ◌≤◌}
 use native.Mathlib.Omega.{arith}
 use native.Mathlib.Numerals.{add-one}
-use lib.ListN.{length, set, length-append, length-set, drop_of_length-le}
+use lib.ListN.{length, set, length-append, drop_of_length-le}
 use lib.Seq.{sets, take_at, drop_at}
 use lib.Dec.{eqb, ltb}
 use borrow.Author.Tests.{ltb-false, not-false, eqb-true}
@@ -75,9 +75,6 @@ module _ (len : ℕ) (start : Memory) (blocks pieces list : List ℕ) where
     pub sound : Sound len m
     pub sized : length bytes ≡ length numbers * block_size
     pub room : i + length numbers ≤ length list
-    pub image_length : length m.image ≡ length start.image
-    pub map_length : length m.map ≡ length start.map
-    pub results_length : length now ≡ length list
     pub memory : after_each len m (paired numbers bytes) ≡ after_each len start (paired blocks pieces)
     pub results : sets now i (results_of_each len m (paired numbers bytes)) ≡ written list (results_of_each len start (paired blocks pieces))
 
@@ -87,9 +84,6 @@ module _ (len : ℕ) (start : Memory) (blocks pieces list : List ℕ) where
         sound = passes;
         sized = sized;
         room = omega arith;
-        image_length = refl;
-        map_length = refl;
-        results_length = refl;
         memory = refl;
         results = refl;
       }
@@ -114,14 +108,10 @@ module _ (len : ℕ) (start : Memory) (blocks pieces list : List ℕ) where
 
       next : Turn after (set results i (result_of (delivery len m block piece).answer)) (i + 1) numbers bytes
       next =
-          let kept = sound_kept len m block piece turn.sound in
           record {
-            sound = kept.sound;
+            sound = (sound_kept len m block piece turn.sound).sound;
             sized = omega (arith, turn.sized, length-append piece bytes, whole);
             room = omega (arith, turn.room);
-            image_length = kept.image_length ∙ turn.image_length;
-            map_length = kept.map_length ∙ turn.map_length;
-            results_length = simp length-set turn.results_length;
             memory = after_step ∙ turn.memory;
             results = results_step ∙ turn.results;
           }

@@ -23,5 +23,7 @@ loop-i-preserved c =
 
 pub returns : goal.returns
 returns c =
-    let last = turn_last _ _ _ _ _ c.loop-i.invariant.1 (⊎_elim (λ p. p.1.0) (λ p. omega (arith, p.1.1.0, c.loop-i.invariant.0, c.loop-i.invariant.1.sized)) c.in-None.ensures.steps.0) in
+    let inv = c.loop-i.invariant in
+    let none = ⊎_elim (λ p. p.1.0) (λ p. omega (arith, p.1.1.0, inv.0, inv.1.sized)) c.in-None.ensures.steps.0 in
+    let last = turn_last _ _ _ _ _ inv.1 none in
     record { map_after = last.0; results_after = last.1 }
