@@ -26,7 +26,7 @@ follow (refused f) rest = refused f
 abbrev pub before : Section → Answer (List Section) → Answer (List Section)
 before section rest = and_then rest (λ (sections : List Section). given (section ∷ sections))
 
--- the sections from a place on. A section has bytes, so with a step for each byte the steps suffice (law `sections_step`)
+-- the sections from a place on. A section has bytes, so with a step for each byte the steps suffice (law `sections-step`)
 unfoldable pub sections_from : (left : ℕ) (file : Bytes) (place : ℕ) → Answer (List Section)
 sections_from zero file place = given []
 sections_from (suc left) file place =

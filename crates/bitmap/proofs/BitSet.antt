@@ -1,5 +1,5 @@
 -- A block's bit in the map (specs/Bit), after one is set.
---     set_past                 past the map's end no bit is set
+--     bit_past, set_past       past the map's end no bit is set
 --     bit_full                 each bit of a word of ones is set
 --     bit_set, bit_other       the bit set is one, every other is as before
 --     word_set, word_other     the block's word, and every other
@@ -37,6 +37,9 @@ pub same_bit : (s t : List ℕ) (b : ℕ) → bit s b ≡ bit t b → digit (wor
 same_bit s t b e = on (bit s b) (λ f. bit_one s b f ∙ sym (bit_one t b (sym e ∙ f))) (λ f. bit_zero s b f ∙ sym (bit_zero t b (sym e ∙ f)))
 
 module _ (map : List ℕ) (block : ℕ) where
+  pub bit_past : length map ≤ block / 64 → bit map block ≡ false
+  bit_past h = zero_bit map block (rw (get_or-eq_default map 0 h) (digit_zero (block % 64)))
+
   pub bit_full : word_at map (block / 64) + 1 ≡ 2 ^ 64 → bit map block ≡ true
   unfolding bit
   bit_full e = rw (all_ones 64 (word_at map (block / 64)) (block % 64) e (omega arith))

@@ -2,6 +2,7 @@
 --     same_front, same_past    equal fronts, and equal rests, have the same elements
 --     front_same               two lists of one length with the same elements before n have equal fronts
 --     same_parts               two lists of one length that agree before n and from n on are equal
+--     copy_more                a turn of a loop that copies one list over another: one element more of the front is copied
 use mathlib.Core.Path.{◌≡◌, sym, ap, ◌∙◌}
 use mathlib.Core.List.{List, ◌++◌}
 use Prim.Native.Nat.{ℕ, suc, ◌+◌, ◌-◌, ◌<◌, ◌≤◌}
@@ -30,3 +31,10 @@ module _ {A : Type 0} (d : A) (s t : List A) (n : ℕ) where
 
   pub same_parts : length s ≡ length t → ((i : ℕ) → i < n → get_or s i d ≡ get_or t i d) → drop n s ≡ drop n t → s ≡ t
   same_parts e front past = ext_get_or d s t e (λ i l. on (ltb i n) (λ h. front i (ltb-true i n h)) (λ h. same_past i past (ltb-false i n h)))
+
+pub copy_more : {A : Type 0} (d : A) (into from : List A) (i : ℕ) → i < length into → i < length from
+    → set (take i from ++ drop i into) i (get_or from i d) ≡ take (i + 1) from ++ drop (i + 1) into
+copy_more d into from i h k =
+    let short : length (take i from) ≡ i = length-take-le i from (omega arith) in
+    rw (add-one, drop-cons into i d h, set_at (take i from) (get_or into i d) (drop (suc i) into) (get_or from i d) i short, take-suc from i d k)
+    (sym (append_snoc (take i from) (get_or from i d) (drop (suc i) into)))
