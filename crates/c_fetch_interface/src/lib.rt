@@ -16,11 +16,7 @@ use intake::{Intake, Memory};
 pub extern "C" fn sarvoltig_holds(len: u64, map: &[u64], block: u64) -> u32
     ensures { result ≡ cond (held len map.now block) 1 0 }
 {
-    if intake::holds(Intake::new(len), map, block) {
-        1
-    } else {
-        0
-    }
+    u32::from(intake::holds(Intake::new(len), map, block))
 }
 
 // Asks for the first block from a number on that is not held.

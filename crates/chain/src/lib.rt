@@ -27,7 +27,7 @@ pub enum Walked {
     Waiting { page: u32, rows: usize, pages: u64 },
 }
 
-// What a question about one row answers: what was asked for, or the page that the walk waits for.
+// What a question answers where it is not refused: what was asked for, or the page that is waited for.
 #[derive(Clone, Copy, Debug, PartialEq, Eq)]
 pub enum Reply<T> {
     Found(T),

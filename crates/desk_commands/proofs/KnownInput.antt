@@ -1,6 +1,6 @@
 -- The commands of known bytes (specs/Reading), one after the other, from what the reads of a turn consumed.
 --     some_enough    more commands than bytes are all of them
---     reads_whole, reads_no_command    a turn that ran a command, and one that ended the run
+--     reads_whole    a turn that ran a command
 --     reads_nothing    no byte was left
 --     ok_both, one_byte    what two clauses say of an answer; the one byte of a kind
 --     turn_ends, turn_follows    a turn, from what its reads consumed

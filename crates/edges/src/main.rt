@@ -7,31 +7,18 @@ use refusal::{Fault, Refusal};
 use row::RowError;
 use std::io;
 use table::Table;
+use text::Text;
 
-fn say_open(rt: &impl Print, len: u64, image: &[u8], map: &mut [u64]) -> io::Result<()> {
-    match intake::open(len, image, map) {
-        Ok(opened) => println!(rt; "open {}", opened.blocks),
-        Err(refusal) => println!(rt; "{refusal}"),
+fn openings(rt: &impl Print) -> io::Result<()> {
+    let image = [0u8; 32768];
+    let mut map = [0u64; 1];
+    for len in [0, 512, 268_435_968, 32_768] {
+        match intake::open(len, &image, &mut map) {
+            Ok(opened) => println!(rt; "open {}", opened.blocks)?,
+            Err(refusal) => println!(rt; "{refusal}")?,
+        }
     }
-}
-
-fn put(page: &mut [u8], at: usize, byte: u8) {
-    if at < page.len() {
-        page[at] = byte;
-    }
-}
-
-fn put_counts(page: &mut [u8], counts: u32) {
-    put(page, 0x18, (counts % 256) as u8);
-    put(page, 0x19, (counts / 256 % 256) as u8);
-    put(page, 0x1a, (counts / 65536 % 256) as u8);
-}
-
-// Makes the page number 1 of a table of genres, with these row counts.
-fn set_header(page: &mut [u8], counts: u32) {
-    put(page, 0x04, 1);
-    put(page, 0x08, 1);
-    put_counts(page, counts);
+    Ok(())
 }
 
 // What reading the page answers, as a page of this number and table.
@@ -42,29 +29,91 @@ fn say_read(rt: &impl Print, page: &[u8], number: u32, table: Table) -> io::Resu
     }
 }
 
-fn say_page(rt: &impl Print, page: &mut [u8], counts: u32) -> io::Result<()> {
-    set_header(page, counts);
-    say_read(rt, page, 1, Table::Genres)
+// The entry that the refusal of the page carries, 0 where it is read.
+fn fault_entry(page: &[u8]) -> u64 {
+    match page::read(page, 1, Table::Genres) {
+        Ok(_) => 0,
+        Err(refusal) => u64::from(Fault::from(refusal).entry),
+    }
 }
 
-fn put_flags(page: &mut [u8], low: usize, high: usize) {
-    put(page, low, 0xff);
-    put(page, high, 0xff);
+// Page 1 of a table of genres, which each case takes as the one before left it.
+#[derive(Drop)]
+struct Page {
+    bytes: [u8; 512],
 }
 
-// Sets the flags of entries 0 to 31 of a page of 512 bytes, whose rows all stand at 28, and the first byte of their names.
-fn set_rows(page: &mut [u8], name: u8) {
-    put(page, 0x2c, name);
-    put_flags(page, 508, 509);
-    put_flags(page, 472, 473);
-}
+impl Page {
+    fn set_header(&mut self, counts: u32) {
+        self.bytes[0x04] = 1;
+        self.bytes[0x08] = 1;
+        self.bytes[0x18..0x1b].copy_from_slice(&counts.to_le_bytes()[..3]);
+    }
 
-fn say_part(rt: &impl Print, row: &[u8], place: usize, len: usize) -> io::Result<()> {
-    rt.print("text ")?;
-    if place <= row.len() {
-        if len <= row.len() - place {
-            rt.write_all(&row[place..place + len])?;
+    // Sets the flags of entries 0 to 31, whose rows all stand at 28, and the first byte of their names.
+    fn set_rows(&mut self, name: u8) {
+        self.bytes[0x2c] = name;
+        self.bytes[508..510].fill(0xff);
+        self.bytes[472..474].fill(0xff);
+    }
+
+    // Reads the page with these row counts.
+    fn say(&mut self, rt: &impl Print, counts: u32) -> io::Result<()> {
+        self.set_header(counts);
+        say_read(rt, &self.bytes, 1, Table::Genres)
+    }
+
+    fn say_entry(&mut self, rt: &impl Print, counts: u32) -> io::Result<()> {
+        self.say(rt, counts)?;
+        println!(rt; "entry {}", fault_entry(&self.bytes))
+    }
+
+    fn without_rows(&mut self, rt: &impl Print) -> io::Result<()> {
+        for counts in [0, 208, 209, 0x1fff] {
+            self.say(rt, counts)?;
         }
+        Ok(())
+    }
+
+    // 16 and 17 entries, all present, counted right; then 17 counted as one less, one more and all ones of both groups.
+    fn counted(&mut self, rt: &impl Print) -> io::Result<()> {
+        self.set_rows(0x03);
+        for counts in [0x2_0010, 0x2_2011, 0x2_0011, 0x2_4011, 0x4_0011] {
+            self.say(rt, counts)?;
+        }
+        Ok(())
+    }
+
+    // 17 entries where the rows' names are malformed, counted right and as one less.
+    fn bad_names(&mut self, rt: &impl Print) -> io::Result<()> {
+        self.set_rows(0x01);
+        self.say(rt, 0x2_2011)?;
+        self.say(rt, 0x2_0011)
+    }
+
+    // Malformed names where entry 1 of two is present, and entry 16 of 17.
+    fn late_entries(&mut self, rt: &impl Print) -> io::Result<()> {
+        self.bytes[508] = 0x02;
+        self.bytes[509] = 0;
+        self.say_entry(rt, 0x2002)?;
+        self.bytes[508] = 0;
+        self.bytes[472] = 0x01;
+        self.bytes[473] = 0;
+        self.say_entry(rt, 0x2011)
+    }
+
+    // The page read as another page, for another table, and as both.
+    fn headers(&self, rt: &impl Print) -> io::Result<()> {
+        say_read(rt, &self.bytes, 2, Table::Genres)?;
+        say_read(rt, &self.bytes, 1, Table::Artists)?;
+        say_read(rt, &self.bytes, 2, Table::Artists)
+    }
+}
+
+fn say_text(rt: &impl Print, row: &[u8], text: Text) -> io::Result<()> {
+    rt.print("text ")?;
+    if let Some(bytes) = row.get(text.place..).and_then(|rest| rest.get(..text.len)) {
+        rt.write_all(bytes)?;
     }
     rt.println("")
 }
@@ -74,74 +123,12 @@ fn say_name(rt: &impl Print, row: &[u8]) -> io::Result<()> {
     let fault = Refusal::TextFault { page: 1, entry: 0 };
     match row::check_row(Table::Genres, row) {
         Ok(()) => match row::slot_text(Table::Genres, row, 0) {
-            Some(text) => say_part(rt, row, text.place, text.len),
+            Some(text) => say_text(rt, row, text),
             None => println!(rt; "{fault}"),
         },
         Err(RowError::Row) => println!(rt; "{}", Refusal::RowShort { page: 1, entry: 0 }),
         Err(RowError::Text) => println!(rt; "{fault}"),
     }
-}
-
-fn openings(rt: &impl Print, image: &[u8], map: &mut [u64]) -> io::Result<()> {
-    say_open(rt, 0, image, map)?;
-    say_open(rt, 512, image, map)?;
-    say_open(rt, 268_435_968, image, map)?;
-    say_open(rt, 32_768, image, map)
-}
-
-fn pages(rt: &impl Print, page: &mut [u8]) -> io::Result<()> {
-    say_page(rt, page, 0)?;
-    say_page(rt, page, 208)?;
-    say_page(rt, page, 209)?;
-    say_page(rt, page, 0x1fff)
-}
-
-// 16 and 17 entries, all present, counted right; then 17 counted as one less, one more and all ones of both groups.
-fn counted_pages(rt: &impl Print, page: &mut [u8]) -> io::Result<()> {
-    set_rows(page, 0x03);
-    say_page(rt, page, 0x2_0010)?;
-    say_page(rt, page, 0x2_2011)?;
-    say_page(rt, page, 0x2_0011)?;
-    say_page(rt, page, 0x2_4011)?;
-    say_page(rt, page, 0x4_0011)
-}
-
-// 17 entries where the rows' names are malformed, counted right and as one less.
-fn bad_names(rt: &impl Print, page: &mut [u8]) -> io::Result<()> {
-    set_rows(page, 0x01);
-    say_page(rt, page, 0x2_2011)?;
-    say_page(rt, page, 0x2_0011)
-}
-
-// The entry that the refusal of the page carries, 0 where it is read.
-fn fault_entry(page: &[u8]) -> u64 {
-    match page::read(page, 1, Table::Genres) {
-        Ok(_) => 0,
-        Err(refusal) => u64::from(Fault::from(refusal).entry),
-    }
-}
-
-fn say_entry(rt: &impl Print, page: &mut [u8], counts: u32) -> io::Result<()> {
-    say_page(rt, page, counts)?;
-    println!(rt; "entry {}", fault_entry(page))
-}
-
-// Malformed names where entry 1 of two is present, and entry 16 of 17.
-fn late_entries(rt: &impl Print, page: &mut [u8]) -> io::Result<()> {
-    put(page, 508, 0x02);
-    put(page, 509, 0);
-    say_entry(rt, page, 0x2002)?;
-    put(page, 508, 0);
-    put(page, 472, 0x01);
-    put(page, 473, 0);
-    say_entry(rt, page, 0x2011)
-}
-
-// Page 1 of a table of genres, read as another page, for another table, and as both.
-fn headers(rt: &impl Print, page: &[u8]) -> io::Result<()> {
-    say_read(rt, page, 2, Table::Genres)?;
-    say_read(rt, page, 1, Table::Artists)?;
-    say_read(rt, page, 2, Table::Artists)
 }
 
 fn names(rt: &impl Print) -> io::Result<()> {
@@ -157,15 +144,13 @@ fn more_names(rt: &impl Print) -> io::Result<()> {
 }
 
 fn main(rt: HostRuntime) -> io::Result<()> {
-    let image = [0u8; 32768];
-    let mut map = [0u64; 1];
-    openings(&rt, &image, &mut map)?;
-    let mut page = [0u8; 512];
-    pages(&rt, &mut page)?;
-    counted_pages(&rt, &mut page)?;
-    bad_names(&rt, &mut page)?;
-    late_entries(&rt, &mut page)?;
-    headers(&rt, &page)?;
+    openings(&rt)?;
+    let mut page = Page { bytes: [0; 512] };
+    page.without_rows(&rt)?;
+    page.counted(&rt)?;
+    page.bad_names(&rt)?;
+    page.late_entries(&rt)?;
+    page.headers(&rt)?;
     names(&rt)?;
     more_names(&rt)
 }

@@ -28,7 +28,7 @@ abbrev pub text_place : (place len : ℕ) (encoding : Encoding) → TextPlace
 text_place place len encoding = record { place = place; len = len; encoding = encoding }
 
 -- Rule 5.26: the text of a row, where it is read from the row; 15 carries the row's page and entry.
--- A row that was found has no malformed string (proofs/FoundRow, `row-text`).
+-- A row that was found has no malformed string (proofs/FoundRow, `row_text`).
 abbrev pub text_found : (row : Row) (size : ℕ) (text : Answer TextAt) → Answer (found.Found TextPlace)
 text_found row size text =
     and_then (on_row row text) (λ t. given (found.found (text_place (place_of size row + t.place) t.len t.encoding)))

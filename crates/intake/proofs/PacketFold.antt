@@ -6,12 +6,12 @@
 --     refused_packet, taken_packet     the whole packet, from what the calls of `deliver_packet` give
 -- Rests on refusals 1 to 4 (proofs/RulesPassed), the verdict (proofs/Verdict) and what New adds (proofs/NewAdds).
 use mathlib.Core.Path.{◌≡◌, refl, sym, ap, ◌∙◌}
-use mathlib.Core.List.{List, ◌∷◌}
-use Prim.Native.Nat.{ℕ, ◌+◌, ◌-◌, ◌*◌, ◌<◌, ◌≤◌}
+use mathlib.Core.List.{List, [], ◌∷◌, ◌++◌}
+use Prim.Native.Nat.{ℕ, ◌+◌, ◌*◌, ◌<◌, ◌≤◌}
 use native.Mathlib.Omega.{arith}
 use native.Mathlib.Numerals.{add-one}
-use lib.ListN.{length, take, drop, get_or, set, length-set, drop_of_length-le}
-use lib.Seq.{sets, drop-cons, drop-drop}
+use lib.ListN.{length, set, length-append, drop_of_length-le}
+use lib.Seq.{sets, take_at, drop_at}
 use lib.Dec.{eqb, ltb}
 use borrow.Author.Tests.{ltb-false, not-false, eqb-true}
 use Rattle.lists.proofs.Choice.{on}
@@ -24,7 +24,7 @@ use Rattle.bitmap.specs.Count.{held_count}
 use Rattle.bitmap.proofs.SpareBits.{spare_clear, clear_spare}
 use Rattle.intake.specs.Memory.{Memory}
 use Rattle.intake.specs.Check.{check_call}
-use Rattle.intake.specs.Deliver.{Delivery, Verdict, new, same, verdict, after_verdict, with_count, Judgement, judged, delivery}
+use Rattle.intake.specs.Deliver.{Verdict, new, same, verdict, after_verdict, with_count, Judgement, judged, delivery}
 use Rattle.intake.specs.Packet.{paired, check_sizes, deliveries_in, after_each, result_of, results_of_each, packet_outcome, settled_packet, packet}
 use Rattle.intake.specs.Added.{Added}
 use Rattle.intake.specs.Private.{Sound, result_of_verdict}
@@ -70,92 +70,75 @@ result_number len map (given v) = refl
 result_number len map (refused f) = refl
 
 module _ (len : ℕ) (start : Memory) (blocks pieces list : List ℕ) where
-  -- the deliveries from number i on
-  abbrev left : ℕ → List Delivery
-  left i = paired (drop i blocks) (drop (i * block_size) pieces)
-
-  pub record Turn (m : Memory) (now : List ℕ) (i : ℕ) : Type 0 where
+  -- i deliveries are made, and these numbers and these bytes are left
+  pub record Turn (m : Memory) (now : List ℕ) (i : ℕ) (numbers bytes : List ℕ) : Type 0 where
     pub sound : Sound len m
-    pub sized : length pieces ≡ length blocks * block_size
-    pub room : length blocks ≤ length list
-    pub inside : i ≤ length blocks
-    pub image_length : length m.image ≡ length start.image
-    pub map_length : length m.map ≡ length start.map
-    pub results_length : length now ≡ length list
-    pub memory : after_each len m (left i) ≡ after_each len start (paired blocks pieces)
-    pub results : sets now i (results_of_each len m (left i)) ≡ written list (results_of_each len start (paired blocks pieces))
+    pub sized : length bytes ≡ length numbers * block_size
+    pub room : i + length numbers ≤ length list
+    pub memory : after_each len m (paired numbers bytes) ≡ after_each len start (paired blocks pieces)
+    pub results : sets now i (results_of_each len m (paired numbers bytes)) ≡ written list (results_of_each len start (paired blocks pieces))
 
-  pub turn_first : Sound len start → length pieces ≡ length blocks * block_size → length blocks ≤ length list → Turn start list 0
+  pub turn_first : Sound len start → length pieces ≡ length blocks * block_size → length blocks ≤ length list → Turn start list 0 blocks pieces
   turn_first passes sized room =
       record {
         sound = passes;
         sized = sized;
-        room = room;
-        inside = omega arith;
-        image_length = refl;
-        map_length = refl;
-        results_length = refl;
+        room = omega arith;
         memory = refl;
         results = refl;
       }
 
-  module _ {m : Memory} {results : List ℕ} {i : ℕ} (turn : Turn m results i) where
-    module _ (h : i < length blocks) where
-      abbrev number : ℕ
-      number = get_or blocks i 0
-
-      abbrev part : List ℕ
-      part = take (i * block_size + block_size - i * block_size) (drop (i * block_size) pieces)
-
-      left_step : left i ≡ record { block = number; piece = part } ∷ left (i + 1)
+  module _ {m : Memory} {results : List ℕ} {i : ℕ} where
+    module _ (block : ℕ) (piece numbers bytes : List ℕ) (turn : Turn m results i (block ∷ numbers) (piece ++ bytes)) (whole : length piece ≡ block_size) where
+      left_step : paired (block ∷ numbers) (piece ++ bytes) ≡ record { block = block; piece = piece } ∷ paired numbers bytes
       unfolding paired
-      left_step =
-          let size : i * block_size + block_size - i * block_size ≡ block_size = omega arith in
-          let next : i * block_size + block_size ≡ (i + 1) * block_size = omega arith in
-          rw (size, ← next, ← drop-drop block_size (i * block_size) pieces, add-one, drop-cons blocks i 0 h)
+      left_step = rw (take_at piece bytes block_size whole, drop_at piece bytes block_size whole)
 
       abbrev after : Memory
-      after = (delivery len m number part).memory
+      after = (delivery len m block piece).memory
 
-      after_step : after_each len after (left (i + 1)) ≡ after_each len m (left i)
+      after_step : after_each len after (paired numbers bytes) ≡ after_each len m (paired (block ∷ numbers) (piece ++ bytes))
       unfolding after_each
       after_step = rw left_step
 
-      results_step : sets (set results i (result_of (delivery len m number part).answer)) (i + 1) (results_of_each len after (left (i + 1)))
-          ≡ sets results i (results_of_each len m (left i))
+      results_step : sets (set results i (result_of (delivery len m block piece).answer)) (i + 1) (results_of_each len after (paired numbers bytes))
+          ≡ sets results i (results_of_each len m (paired (block ∷ numbers) (piece ++ bytes)))
       unfolding results_of_each
       results_step = rw (left_step, add-one)
 
-      next : Turn after (set results i (result_of (delivery len m number part).answer)) (i + 1)
+      next : Turn after (set results i (result_of (delivery len m block piece).answer)) (i + 1) numbers bytes
       next =
-          let kept = sound_kept len m number part turn.sound in
           record {
-            sound = kept.sound;
-            sized = turn.sized;
-            room = turn.room;
-            inside = omega arith;
-            image_length = kept.image_length ∙ turn.image_length;
-            map_length = kept.map_length ∙ turn.map_length;
-            results_length = simp length-set turn.results_length;
+            sound = (sound_kept len m block piece turn.sound).sound;
+            sized = omega (arith, turn.sized, length-append piece bytes, whole);
+            room = omega (arith, turn.room);
             memory = after_step ∙ turn.memory;
             results = results_step ∙ turn.results;
           }
 
-      same_result : result_of_verdict (verdict len m number part) ≡ result_of (delivery len m number part).answer
+      same_result : result_of_verdict (verdict len m block piece) ≡ result_of (delivery len m block piece).answer
       unfolding delivery
-      same_result = result_number len after.map (verdict len m number part)
+      same_result = result_number len after.map (verdict len m block piece)
 
-      pub turn_next : {j : Judgement} {result : ℕ} → j ≡ judged len m number part → result ≡ result_of_verdict j.verdict
-          → Turn j.memory (set results i result) (i + 1)
+      next_judged : {j : Judgement} {result : ℕ} → j ≡ judged len m block piece → result ≡ result_of_verdict j.verdict
+          → Turn j.memory (set results i result) (i + 1) numbers bytes
       unfolding delivery
-      turn_next {j} {result} e n = rw (n, e, same_result) next
+      next_judged {j} {result} e n = rw (n, e, same_result) next
 
-    pub turn_last : length blocks ≤ i
-        → (m ≡ after_each len start (paired blocks pieces)) × (results ≡ written list (results_of_each len start (paired blocks pieces)))
-    unfolding after_each results_of_each paired
-    turn_last h =
-        let none = drop_of_length-le blocks h in
-        (rw none at turn.memory, rw none at turn.results)
+    module _ {numbers bytes : List ℕ} (turn : Turn m results i numbers bytes) where
+      -- a number and its piece come off the front
+      pub turn_next : {block : ℕ} {later more : List ℕ} {k n : ℕ} (piece : List ℕ) → numbers ≡ block ∷ later → bytes ≡ piece ++ more → length piece ≡ block_size
+          → k ≡ i → n ≡ i + 1 → {j : Judgement} {result : ℕ} → j ≡ judged len m block piece → result ≡ result_of_verdict j.verdict
+          → Turn j.memory (set results k result) n later more
+      turn_next {block = block} {later = later} {more = more} piece e f whole k n v r =
+          rw (k, n) (next_judged block piece later more (rw (e, f) at turn) whole v r)
+
+      pub turn_last : length numbers ≡ 0
+          → (m ≡ after_each len start (paired blocks pieces)) × (results ≡ written list (results_of_each len start (paired blocks pieces)))
+      unfolding after_each results_of_each paired
+      turn_last e =
+          let none : numbers ≡ [] = drop_of_length-le numbers {i = 0} (omega (arith, e)) in
+          (rw none at turn.memory, rw none at turn.results)
 
 -- the whole packet
 module _ (len : ℕ) (m : Memory) (blocks pieces list : List ℕ) where

@@ -3,7 +3,7 @@
 --     unread           no such byte or word changes the answer to a delivery
 --     unwritten        no delivery writes one
 --     open_unwritten   nor does an opening, which looks at lengths alone
--- Rests on the verdict (proofs/Verdict).
+-- Rests on the verdict (proofs/Verdict), the bytes of a block (proofs/BlockBytes), an opening (proofs/OpenClears) and the map's words and count (bitmap: BitSet, HeldCount).
 use mathlib.Core.Path.{◌≡◌, refl, sym, ap, ◌∙◌}
 use mathlib.Core.List.{List}
 use Prim.Native.Nat.{ℕ, ◌+◌, ◌-◌, ◌*◌, ◌/◌, ◌<◌}

@@ -16,7 +16,7 @@ check_lengths len image map rest =
     (refuse_if (ltb (length map) (word_count len)) (fault 3 0)
     rest))
 
--- Rules 2.25, 2.27, 2.28 and 2.31: 1, 2, 3, 4, before every call but the opening
+-- Rules 2.25, 2.27, 2.28 and 2.31: 1, 2, 3, 4, before every call after the opening that can be refused
 unfoldable pub check_call : {A : Type 0} (len : ℕ) (m : Memory) (rest : Answer A) → Answer A
 check_call len m rest =
     check_lengths len m.image m.map

@@ -66,11 +66,12 @@ pub data Taken : Type 0 where
 abbrev pub with_count : (len : ℕ) (map : Words) (v : Answer Verdict) → Answer Taken
 with_count len map v = and_then v (λ (x : Verdict). given (taken x (held_count len map)))
 
--- the answer that the code's result stands for
+-- the good answer for each case of the code's enum
 abbrev pub taken_of : Delivered → Taken
 taken_of (New count) = taken new count
 taken_of (Same count) = taken same count
 
+-- the answer that the code's result stands for
 abbrev pub delivered_of : Result Delivered Refusal → Answer Taken
 delivered_of r = answer_as taken_of r
 

@@ -16,10 +16,11 @@ pub record Opening : Type 0 where
   pub answer : Answer OpenedFile
   pub map : Words
 
--- the answer that the code's result stands for
+-- what the code's struct stands for
 abbrev pub file_of : Opened → OpenedFile
 file_of o = opened o.intake.len o.blocks
 
+-- the answer that the code's result stands for
 abbrev pub opened_of : Result Opened Refusal → Answer OpenedFile
 opened_of r = answer_as file_of r
 

@@ -104,7 +104,7 @@ fn check_lengths(len: u64, memory: Memory) -> Result<(), Refusal>
     Ok(())
 }
 
-// Refusals 1 to 4, with which every call after the opening begins.
+// Refusals 1 to 4, with which every call after the opening begins that can be refused.
 #[tactic(auto, using(lists::proofs::Choice::tests), unfolding(crate::specs::Check::check_call, crate::specs::Check::check_lengths))]
 pub fn check(intake: Intake, memory: Memory) -> Result<(), Refusal>
     ensures { answer_of result ≡ check_call intake.len (memory_of memory.entry) (given tt) }
@@ -239,10 +239,12 @@ fn take_blocks(
     ensures results_after { results.new ≡ written results.old
         (results_of_each intake.len (memory image.old map.old) (paired blocks.now pieces.now)) }
 {
-    for (i, block) in blocks.iter().enumerate() {
-        let start = i * Block::SIZE;
-        let end = start + Block::SIZE;
-        let verdict = take_block(intake, image, map, *block, &pieces[start..end]);
+    for (i, (block, piece)) in blocks
+        .iter()
+        .zip(pieces.chunks_exact(Block::SIZE))
+        .enumerate()
+    {
+        let verdict = take_block(intake, image, map, *block, piece);
         results[i] = result(verdict);
     }
 }
@@ -309,7 +311,7 @@ pub fn holds(intake: Intake, map: &[u64], block: u64) -> bool
     block < bitmap::block_count(intake.len) && bitmap::has_bit(map, block)
 }
 
-// How many bits from a block's on are known to be ones: the rest of its word where that has no zero, else its own or none.
+// How many bits from a block's on are known to be ones: the rest of its word where the word has no zero, else its own or none.
 fn held_run(map: &[u64], block: u64) -> u64
     ensures { HeldRun map.now block result }
 {

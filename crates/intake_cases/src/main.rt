@@ -1,125 +1,102 @@
 // Runs the intake near its edges: refusals 1 to 7, New and Same, and writes a line for each call.
 #![tactic(auto)]
 
-use intake::{Delivered, Intake};
+use intake::{Delivered, Intake, Opened};
+use refusal::Refusal;
 use std::io;
 
-fn open(rt: &impl Print, len: u64, image: &[u8], map: &mut [u64]) -> io::Result<()> {
-    match intake::open(len, image, map) {
+const PIECE: [u8; 512] = [7; 512];
+
+fn say_open(rt: &impl Print, opened: Result<Opened, Refusal>) -> io::Result<()> {
+    match opened {
         Ok(opened) => println!(rt; "open {}", opened.blocks),
         Err(refusal) => println!(rt; "{refusal}"),
     }
 }
 
-fn deliver(
-    rt: &impl Print,
-    len: u64,
-    image: &mut [u8],
-    map: &mut [u64],
-    block: u64,
-    piece: &[u8],
-) -> io::Result<()> {
-    match intake::deliver(Intake::new(len), image, map, block, piece) {
+fn say_delivery(rt: &impl Print, delivered: Result<Delivered, Refusal>) -> io::Result<()> {
+    match delivered {
         Ok(Delivered::New(count)) => println!(rt; "new {count}"),
         Ok(Delivered::Same(count)) => println!(rt; "same {count}"),
         Err(refusal) => println!(rt; "{refusal}"),
     }
 }
 
-fn openings(rt: &impl Print, image: &[u8], map: &mut [u64], lens: &[u64]) -> io::Result<()> {
-    for len in lens {
-        open(rt, *len, image, map)?;
+// The buffers, which each call takes as the one before left them.
+#[derive(Drop)]
+struct Buffers {
+    image: [u8; 32768],
+    map: [u64; 2],
+}
+
+impl Buffers {
+    fn open(&mut self, rt: &impl Print, len: u64) -> io::Result<()> {
+        say_open(rt, intake::open(len, &self.image, &mut self.map))
     }
-    Ok(())
-}
 
-fn deliveries(
-    rt: &impl Print,
-    len: u64,
-    image: &mut [u8],
-    map: &mut [u64],
-    piece: &[u8],
-    blocks: &[u64],
-) -> io::Result<()> {
-    for block in blocks {
-        deliver(rt, len, image, map, *block, piece)?;
+    fn deliver(&mut self, rt: &impl Print, len: u64, block: u64, piece: &[u8]) -> io::Result<()> {
+        let file = Intake::new(len);
+        say_delivery(
+            rt,
+            intake::deliver(file, &mut self.image, &mut self.map, block, piece),
+        )
     }
-    Ok(())
-}
 
-fn put(map: &mut [u64], at: usize, word: u64) {
-    if at < map.len() {
-        map[at] = word;
+    // Refusal 3 of an opening.
+    fn open_without_map(&mut self, rt: &impl Print) -> io::Result<()> {
+        say_open(rt, intake::open(512, &self.image, &mut []))
     }
-}
 
-fn say_word(rt: &impl Print, map: &[u64], at: usize) -> io::Result<()> {
-    match map.get(at) {
-        Some(word) => println!(rt; "word {}", *word),
-        None => Ok(()),
+    // Refusal 3 of a delivery.
+    fn deliver_without_map(&mut self, rt: &impl Print) -> io::Result<()> {
+        let file = Intake::new(512);
+        say_delivery(
+            rt,
+            intake::deliver(file, &mut self.image, &mut [], 0, &PIECE),
+        )
     }
-}
 
-// One block: refusals 1 and 2 of an opening, New, Same, and refusals 5 to 7.
-fn one_block(
-    rt: &impl Print,
-    image: &mut [u8],
-    map: &mut [u64],
-    piece: &[u8],
-    other: &[u8],
-    short: &[u8],
-) -> io::Result<()> {
-    openings(rt, image, map, &[0, 268_435_968, 268_435_456, 512])?;
-    deliveries(
-        rt,
-        512,
-        image,
-        map,
-        piece,
-        &[0, 0, 1, 18_446_744_073_709_551_615],
-    )?;
-    deliver(rt, 512, image, map, 0, other)?;
-    deliver(rt, 512, image, map, 0, short)
-}
+    // One block: refusals 1 and 2 of an opening, New, Same, and refusals 5 to 7.
+    fn one_block(&mut self, rt: &impl Print) -> io::Result<()> {
+        for len in [0, 268_435_968, 268_435_456, 512] {
+            self.open(rt, len)?;
+        }
+        for block in [0, 0, 1, 18_446_744_073_709_551_615] {
+            self.deliver(rt, 512, block, &PIECE)?;
+        }
+        self.deliver(rt, 512, 0, &[9; 512])?;
+        self.deliver(rt, 512, 0, &[7; 511])
+    }
 
-// Refusals 1 to 4 of a delivery.
-fn refused(rt: &impl Print, image: &mut [u8], map: &mut [u64], piece: &[u8]) -> io::Result<()> {
-    deliver(rt, 0, image, map, 0, piece)?;
-    deliver(rt, 65_536, image, map, 0, piece)?;
-    deliver(rt, 512, image, &mut map[..0], 0, piece)?;
-    put(map, 0, 3);
-    deliver(rt, 512, image, map, 0, piece)
-}
+    // Refusals 1 to 4 of a delivery.
+    fn refused(&mut self, rt: &impl Print) -> io::Result<()> {
+        self.deliver(rt, 0, 0, &PIECE)?;
+        self.deliver(rt, 65_536, 0, &PIECE)?;
+        self.deliver_without_map(rt)?;
+        self.map[0] = 3;
+        self.deliver(rt, 512, 0, &PIECE)
+    }
 
-// 64 blocks: one word of the map is in use, with no spare bit, and the other stays. Block 0 has the piece's bytes since the first file.
-fn one_word(rt: &impl Print, image: &mut [u8], map: &mut [u64], piece: &[u8]) -> io::Result<()> {
-    open(rt, 32_768, image, map)?;
-    deliveries(rt, 32_768, image, map, piece, &[63, 64])?;
-    say_word(rt, map, 0)?;
-    say_word(rt, map, 1)?;
-    put(map, 0, 18_446_744_073_709_551_615);
-    deliver(rt, 32_768, image, map, 0, piece)
-}
-
-fn run(
-    rt: &impl Print,
-    image: &mut [u8],
-    map: &mut [u64],
-    piece: &[u8],
-    other: &[u8],
-    short: &[u8],
-) -> io::Result<()> {
-    one_block(rt, image, map, piece, other, short)?;
-    open(rt, 512, image, &mut map[..0])?;
-    refused(rt, image, map, piece)?;
-    one_word(rt, image, map, piece)
+    // 64 blocks: one word of the map is in use, with no spare bit, and the other stays. Block 0 has the piece's bytes since the
+    // first file.
+    fn one_word(&mut self, rt: &impl Print) -> io::Result<()> {
+        self.open(rt, 32_768)?;
+        self.deliver(rt, 32_768, 63, &PIECE)?;
+        self.deliver(rt, 32_768, 64, &PIECE)?;
+        println!(rt; "word {}", self.map[0])?;
+        println!(rt; "word {}", self.map[1])?;
+        self.map[0] = 18_446_744_073_709_551_615;
+        self.deliver(rt, 32_768, 0, &PIECE)
+    }
 }
 
 fn main(rt: HostRuntime) -> io::Result<()> {
-    let mut image = [0u8; 32768];
-    let mut map = [0, 5];
-    let piece = [7u8; 512];
-    let other = [9u8; 512];
-    let short = [7u8; 511];
-    run(&rt, &mut image, &mut map, &piece, &other, &short)
+    let mut buffers = Buffers {
+        image: [0; 32768],
+        map: [0, 5],
+    };
+    buffers.one_block(&rt)?;
+    buffers.open_without_map(&rt)?;
+    buffers.refused(&rt)?;
+    buffers.one_word(&rt)
 }

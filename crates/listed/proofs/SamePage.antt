@@ -1,5 +1,5 @@
 -- A place lies on the page that starts at a byte exactly when it stands at or behind that byte and less than size bytes behind it. Rule 5.30.
---     before_page, page_test     the tests of `lies_on`
+--     page_test                  the test of `lies_on`
 --     first_whole, first_page    where the page of a place starts
 use mathlib.Core.Path.{◌≡◌, sym, ap, ◌∙◌}
 use mathlib.Core.Bool.{false}
@@ -25,9 +25,6 @@ module _ (place first size : ℕ) (some : 0 < size) (whole : first % size ≡ 0)
 
   bounds_same : first ≤ place → place < first + size → place / size ≡ first / size
   bounds_same h l = div-eq_of_lt-le size (omega (arith, starts)) (omega (arith, starts, suc-mul (first / size) size))
-
-  pub before_page : place < first → false ≡ eqb (place / size) (first / size)
-  before_page h = sym (ne_eqb (place / size) (first / size) (λ e. let b = same_bounds e in omega arith))
 
   pub page_test : first ≤ place → ltb (place - first) size ≡ eqb (place / size) (first / size)
   page_test h =

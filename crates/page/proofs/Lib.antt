@@ -1,6 +1,6 @@
 -- IndexStep: what one entry more adds to the row index.
--- `RowIndex::read` reads the index once for all that use it (RowEntries). EntriesInside takes its entries one at a time, PresentCount a group at a time.
--- `test_page` makes the tests of a page for `read` and `read_row` (PageTests). The loop of `read` checks the rows (ReadLoop).
+-- `RowIndex::read` reads the index (RowEntries). EntriesInside takes its entries one at a time, PresentCount a group at a time.
+-- `test_page` makes the tests of a page for `read` and `read_row` (PageTests). The loop of `RowIndex::read_rows` checks the rows (ReadLoop).
 -- `fill` and `row_at` go through the same entries (FillLoop, RowLoop).
 -- PageAnswer, OneRowAnswer: what an answer says of the page, and of one row. RowsFound: what is known of the entries of rows and of faults.
 -- PageAgree: the answer depends on the relevant bytes alone.

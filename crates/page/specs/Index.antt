@@ -19,7 +19,7 @@ rest_size r = cond (eqb r 0) 0 (4 + 2 * r)
 unfoldable pub index_size : ℕ → ℕ
 index_size n = group_size * (n / 16) + rest_size (n % 16)
 
--- Rule 5.3, proved as `index-step`: what one entry more adds, for every count and so for those below 8,191.
+-- Rule 5.3, proved as `index_step`: what one entry more adds, for every count and so for those below 8,191.
 abbrev pub IndexStep : Type 0
 IndexStep = (n : ℕ) → index_size (n + 1) ≡ index_size n + cond (eqb (n % 16) 0) 6 2
 

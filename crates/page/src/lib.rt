@@ -101,6 +101,14 @@ fn index_size(n: u16) -> usize
     RowGroup::SIZE * (n / 16) as usize + rest_size(n % 16)
 }
 
+// The part of a page before an index of so many entries, in which its rows lie; none where the index is longer than the page.
+fn before_entries(page: &[u8], entries: u16) -> &[u8]
+    ensures { result.now ≡ take (length page.now - index_size «entries») page.now }
+{
+    let start = page.len().saturating_sub(index_size(entries));
+    &page[..start]
+}
+
 impl<'a> RowIndex<'a> {
     // The row index of a page, if it is good: it fits, and as many entries are present as the page counts.
     fn read(page: &'a [u8]) -> Option<Self>
@@ -133,7 +141,7 @@ impl<'a> RowIndex<'a> {
     fn before(&self) -> &'a [u8]
         ensures { result.now ≡ take (length self.now.page - index_size self.now.entries) self.now.page }
     {
-        &self.page[..self.page.len() - index_size(self.entries)]
+        before_entries(self.page, self.entries)
     }
 
     // The presence flags of entry i's group.
@@ -385,9 +393,7 @@ pub fn read_row(
 pub fn before_index(page: &[u8]) -> &[u8]
     ensures { result.now ≡ before_index page.now }
 {
-    let size = index_size(entry_count(page));
-    let start = page.len().saturating_sub(size);
-    &page[..start]
+    before_entries(page, entry_count(page))
 }
 
 // The next page of the chain.

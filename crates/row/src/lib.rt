@@ -134,7 +134,7 @@ impl Layout {
     }
 }
 
-// The layout of an artist row, by its subtype; none of a row of fewer than 0a bytes.
+// The layout of an artist row, by its subtype; none of a row of fewer than 0a bytes or of an unknown subtype.
 #[tactic(auto, using(lists::proofs::Choice::tests), unfolding(crate::specs::Layout::artist_layout))]
 fn artist_layout(row: &[u8]) -> Option<Layout>
     ensures { result ≡ artist_layout row.now }

@@ -1,4 +1,4 @@
--- Demand 3 (specs/Demand), for every run: one term; and its corollaries for reading from a list (specs/FromList), for fetching (specs/Fetch) and for answers in full (specs/Final).
+-- The demand on runs (specs/Demand), for every run: one term; and its corollaries for reading from a list (specs/FromList), for fetching (specs/Fetch) and for answers in full (specs/Final).
 -- Rests on what holds at the end of a run (proofs/RunHolds, proofs/CallsAppend, proofs/PacketCalls), on the questions over the blocks held (export: Questions),
 -- and on proofs/HeldBlocks and proofs/AnswersKept.
 use mathlib.Core.Path.{◌≡◌, sym, ap, ◌∙◌}

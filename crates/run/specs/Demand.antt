@@ -1,4 +1,4 @@
--- Rule 8.14: demand 3, one statement about whole runs.
+-- Rule 8.14: one statement about whole runs.
 -- A run opens a file of len bytes, with image and map as they were before, is not refused, and goes on with any list of calls.
 use Rattle.std.specs.Prelude.{◌≡◌, true, List, [], ◌∷◌, ◌++◌, ℕ, ◌<◌}
 use Rattle.lists.specs.Alias.{Bytes}

@@ -1,10 +1,6 @@
 -- `row::check_texts` meets its contract, by the loop's invariant `Checked` (proofs/TextsLoop).
-use Prim.Native.Nat.{◌-◌}
 use Rattle.row.proofs.TextsLoop.{Checked}
 use Rattle.row.proofs.check_texts.Given as goal
 
 abbrev pub invariant-loop-slot : goal.invariant-loop-slot
 invariant-loop-slot l = Checked l.table l.row l.slots l.count l.slot
-
-abbrev pub decreases-loop-slot : goal.decreases-loop-slot
-decreases-loop-slot l = l.count - l.slot
