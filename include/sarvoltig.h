@@ -4,9 +4,9 @@
  *
  * The caller owns all memory: for an export the image (the file's bytes) and the map (one bit for each block), for an
  * ANLZ file the file's bytes, and the result (numbers). The functions keep no state, allocate nothing and call nothing
- * but memcpy, memmove and memset. Each answers every input. sarvoltig_version and sarvoltig_holds return a number;
- * every other one returns a code and writes the answer's values to the front of the result, as many as the result
- * takes; the rest of it stays. A result of SARVOLTIG_SIZE_RESULT numbers takes every answer.
+ * but memcpy and memset. Each answers every input. sarvoltig_version and sarvoltig_holds return a number; every other
+ * one returns a code and writes the answer's values to the front of the result, as many as the result takes; the rest
+ * of it stays. A result of SARVOLTIG_SIZE_RESULT numbers takes every answer.
  *
  *     code        answer                                           values
  *     0           SARVOLTIG_CODE_DONE                              those of the function, below

@@ -12,7 +12,7 @@ use Rattle.table.specs.Table.{table_of}
 use Rattle.bitmap.specs.Bit.{bit}
 use Rattle.intake.specs.Memory.{Memory, memory, block_at}
 use Rattle.intake.specs.InUse.{SameInUse}
-use Rattle.intake.specs.Private.{Sound}
+use Rattle.intake.specs.Sound.{Sound}
 use Rattle.intake.specs.Check.{check_lengths, check_call}
 use Rattle.intake.proofs.RulesPassed.{call_refused, call_passes}
 use Rattle.intake.proofs.PastInUse.{call_agree}

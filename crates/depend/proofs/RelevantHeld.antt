@@ -15,7 +15,7 @@ use Rattle.table.specs.declared.Table.{Table}
 use Rattle.table.specs.Table.{slot_count}
 use Rattle.page.specs.Bytes.{page_byte}
 use Rattle.bitmap.specs.Bit.{bit}
-use Rattle.intake.specs.Private.{Sound}
+use Rattle.intake.specs.Sound.{Sound}
 use Rattle.intake.specs.Memory.{Memory, block_at}
 use Rattle.directory.specs.Header.{num_tables, pointer_at, allowed_tables}
 use Rattle.directory.specs.Bytes.{directory_byte}

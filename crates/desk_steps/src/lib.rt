@@ -96,7 +96,10 @@ impl fmt::Display for Reply {
             Reply::Opened(blocks) => write!(f, "open {blocks}"),
             Reply::New(held) => write!(f, "new {held}"),
             Reply::Same(held) => write!(f, "same {held}"),
-            Reply::Done { rows, pages } => write!(f, "done rows {rows} pages {pages}"),
+            Reply::Done { rows, pages } => {
+                write!(f, "done")?;
+                write!(f, " rows {rows} pages {pages}")
+            }
             Reply::Wait { page, rows, pages } => {
                 write!(f, "wait page {page} rows {rows} pages {pages}")
             }

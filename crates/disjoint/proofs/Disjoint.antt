@@ -14,7 +14,7 @@ use Rattle.format.specs.Place.{linkable}
 use Rattle.table.specs.declared.Table.{Table}
 use Rattle.table.specs.Table.{table_number, table_of}
 use Rattle.page.specs.Header.{type}
-use Rattle.intake.specs.Private.{Sound}
+use Rattle.intake.specs.Sound.{Sound}
 use Rattle.intake.specs.Memory.{Memory}
 use Rattle.directory.specs.Header.{len_page}
 use Rattle.chain.specs.Begins.{Begins}

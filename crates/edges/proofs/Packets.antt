@@ -19,7 +19,7 @@ use Rattle.refusal.specs.Fault.{fault}
 use Rattle.bitmap.specs.Words.{block_count}
 use Rattle.bitmap.specs.Bit.{bit}
 use Rattle.bitmap.specs.Count.{held_count}
-use Rattle.intake.specs.Private.{Sound}
+use Rattle.intake.specs.Sound.{Sound}
 use Rattle.intake.specs.Memory.{Memory, block_at}
 use Rattle.intake.specs.Added.{Added}
 use Rattle.intake.specs.Equal.{equal}

@@ -18,7 +18,7 @@ use Rattle.page.specs.Header.{header_agrees}
 use Rattle.page.specs.declared.Row.{Row}
 use Rattle.page.specs.Found.{Rows, no_row}
 use Rattle.page.specs.Read.{before_index, page_rows, read_page}
-use Rattle.intake.specs.Private.{Sound}
+use Rattle.intake.specs.Sound.{Sound}
 use Rattle.intake.specs.Memory.{Memory, block_at}
 use Rattle.directory.specs.Header.{len_page}
 use Rattle.chain.specs.File.{page_part, file_pages, rows_on}

@@ -22,7 +22,7 @@ use Rattle.page.specs.declared.Row.{Row}
 use Rattle.page.specs.Found.{Rows, place_of, places, no_row}
 use Rattle.page.proofs.OneRowAnswer.{row_read, read_row_good, start_good, row_here}
 use Rattle.bitmap.specs.Bit.{bit}
-use Rattle.intake.specs.Private.{Sound}
+use Rattle.intake.specs.Sound.{Sound}
 use Rattle.intake.specs.Memory.{Memory, block_at}
 use Rattle.directory.specs.Header.{header_holds}
 use Rattle.directory.proofs.GoodHeader.{good_header}

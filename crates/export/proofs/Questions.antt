@@ -28,7 +28,7 @@ use Rattle.page.specs.declared.Row.{Row}
 use Rattle.page.specs.Found.{Rows, no_row}
 use Rattle.bitmap.specs.Bit.{bit}
 use Rattle.directory.specs.Header.{len_page}
-use Rattle.intake.specs.Private.{Sound}
+use Rattle.intake.specs.Sound.{Sound}
 use Rattle.intake.specs.Memory.{Memory}
 use Rattle.chain.specs.Walk.{Progress, Walk, full, waiting}
 use Rattle.export.specs.OwnFault.{OwnFault}

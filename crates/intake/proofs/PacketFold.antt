@@ -27,7 +27,8 @@ use Rattle.intake.specs.Check.{check_call}
 use Rattle.intake.specs.Deliver.{Verdict, new, same, verdict, after_verdict, with_count, Judgement, judged, delivery}
 use Rattle.intake.specs.Packet.{paired, check_sizes, deliveries_in, after_each, result_of, results_of_each, packet_outcome, settled_packet, packet}
 use Rattle.intake.specs.Added.{Added}
-use Rattle.intake.specs.Private.{Sound, result_of_verdict}
+use Rattle.intake.specs.Sound.{Sound}
+use Rattle.intake.specs.Private.{result_of_verdict}
 use Rattle.intake.proofs.RulesPassed.{rule_passed, sound, sound_accepted, sound_spare, call_given, call_refused, call_passes}
 use Rattle.intake.proofs.Verdict.{passed, new_absent}
 use Rattle.intake.proofs.NewAdds.{stored_added}

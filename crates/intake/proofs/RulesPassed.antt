@@ -21,7 +21,7 @@ use Rattle.bitmap.specs.Spare.{spare_bit}
 use Rattle.intake.specs.Length.{allowed_length, longest}
 use Rattle.intake.specs.Memory.{Memory}
 use Rattle.intake.specs.Check.{check_lengths, check_call}
-use Rattle.intake.specs.Private.{Sound}
+use Rattle.intake.specs.Sound.{Sound}
 
 pub record Accepted (len : ℕ) (image map : List ℕ) : Type 0 where
   pub allowed : allowed_length len ≡ true

@@ -22,7 +22,7 @@ use Rattle.intake.specs.Memory.{Memory, block_at}
 use Rattle.intake.specs.Check.{check_call}
 use Rattle.intake.specs.Equal.{equal}
 use Rattle.intake.specs.Deliver.{Verdict, new, same, verdict, Judgement, judged, Taken, with_count, outcome, delivery}
-use Rattle.intake.specs.Private.{Sound}
+use Rattle.intake.specs.Sound.{Sound}
 use Rattle.intake.proofs.RulesPassed.{rule_passed, call_passes, call_refused, call_given, sound_accepted}
 
 pub block_inside : (len : ℕ) (m : Memory) (block : ℕ) → Sound len m → block < block_count len → block * block_size + block_size ≤ length m.image

@@ -1,6 +1,7 @@
 pub mod Length
 pub mod Memory
 pub mod Check
+pub mod Sound
 pub mod Open
 pub mod Equal
 pub mod Deliver

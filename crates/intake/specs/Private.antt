@@ -1,19 +1,14 @@
--- Definitions that only the struct Checked, the contracts of private functions and the proofs cite.
+-- Definitions that only the contracts of private functions and the proofs cite.
 use Rattle.std.specs.Prelude.{◌≡◌, true, false, ℕ, ◌+◌, ◌<◌, ◌≤◌, Result}
 use Rattle.lists.specs.Alias.{Bytes, Words}
 use Rattle.refusal.specs.Answer.{Answer, given, refused, answer_as}
 use Rattle.refusal.specs.declared.Refusal.{Refusal}
 use Rattle.bitmap.specs.Bit.{bit}
 use Rattle.intake.specs.Memory.{Memory, memory}
-use Rattle.intake.specs.Check.{check_call}
 use Rattle.intake.specs.Deliver.{Verdict, new, same, Judgement, judgement}
 use Rattle.intake.specs.Packet.{verdict_number}
 use Rattle.intake.specs.declared.Judged.{Judged}
 use Rattle.intake.specs.declared.Judged.TheVariants.{New, Same}
-
--- none of refusals 1 to 4 applies
-abbrev pub Sound : (len : ℕ) (m : Memory) → Type 0
-Sound len m = check_call {A = Unit} len m (given tt) ≡ given tt
 
 -- the verdict for each case of the code's enum
 abbrev pub verdict_of : Judged → Verdict

@@ -13,7 +13,8 @@ ghost use Rattle.intake.specs.Memory.{memory, memory_of};
 ghost use Rattle.intake.specs.Deliver.{stored, verdict, judged, taken, taken_of, outcome_of, delivery};
 ghost use Rattle.intake.specs.Packet.{paired, check_sizes, after_each, results_of_each, packet_outcome_of, packet};
 ghost use Rattle.intake.specs.Missing.{held, next_missing, missing_of};
-ghost use Rattle.intake.specs.Private.{verdict_of, judged_of, judgement_of, result_of_verdict, Sound, HeldRun};
+ghost use Rattle.intake.specs.Sound.{Sound};
+ghost use Rattle.intake.specs.Private.{verdict_of, judged_of, judgement_of, result_of_verdict, HeldRun};
 
 use format::Block;
 use refusal::{Fault, Refusal};
@@ -151,6 +152,17 @@ fn judge_block(file: Checked, block: u64, piece: &[u8]) -> Result<Judged, Refusa
     }
 }
 
+// Copies a slice over another of the same length: `copy_from_slice` would call `memmove`, which a caller of the C library
+// need not have.
+fn copy(into: &mut [u8], from: &[u8])
+    requires { length into.old ≡ length from.now }
+    ensures { into.new ≡ from.now }
+{
+    for i in 0..from.len() {
+        into[i] = from[i];
+    }
+}
+
 // Stores a block and sets its bit.
 fn store(image: &mut [u8], map: &mut [u64], block: u64, piece: &[u8])
     requires { (length piece.now ≡ block_size) × (block * block_size + block_size ≤ length image.old)
@@ -159,7 +171,7 @@ fn store(image: &mut [u8], map: &mut [u64], block: u64, piece: &[u8])
 {
     let start = (block as usize) * Block::SIZE;
     let end = start + Block::SIZE;
-    image[start..end].copy_from_slice(piece);
+    copy(&mut image[start..end], piece);
     map[(block / 64) as usize] |= 1u64 << (block % 64);
 }
 

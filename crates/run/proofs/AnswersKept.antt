@@ -26,7 +26,7 @@ use Rattle.table.specs.declared.Table.{Table}
 use Rattle.table.specs.Table.{table_of, slot_count}
 use Rattle.page.specs.declared.Row.{Row}
 use Rattle.page.specs.Found.{Rows, place_of, places, no_row}
-use Rattle.intake.specs.Private.{Sound}
+use Rattle.intake.specs.Sound.{Sound}
 use Rattle.intake.specs.Memory.{Memory}
 use Rattle.chain.specs.Walk.{Walk, full, waiting}
 use Rattle.chain.specs.Begins.{Begins}

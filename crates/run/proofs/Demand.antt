@@ -7,7 +7,7 @@ use mathlib.Core.Option.{some}
 use Prim.Native.Nat.{ℕ}
 use Rattle.lists.specs.Alias.{Bytes}
 use Rattle.bitmap.specs.Count.{held_count}
-use Rattle.intake.specs.Private.{Sound}
+use Rattle.intake.specs.Sound.{Sound}
 use Rattle.intake.specs.Memory.{Memory}
 use Rattle.intake.specs.Open.{Opening}
 use Rattle.run.specs.Received.{Received, nothing, receive_each}

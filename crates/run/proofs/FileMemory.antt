@@ -17,7 +17,7 @@ use Rattle.format.specs.Size.{block_size}
 use Rattle.bitmap.specs.Words.{block_count, word_count}
 use Rattle.intake.specs.Length.{allowed_length}
 use Rattle.bitmap.specs.Bit.{bit}
-use Rattle.intake.specs.Private.{Sound}
+use Rattle.intake.specs.Sound.{Sound}
 use Rattle.intake.specs.Memory.{memory, block_at}
 use Rattle.run.specs.Received.{Received, has}
 use Rattle.run.specs.File.{or_zeros, in_order, marked, received_file, whole_file, IsWhole}

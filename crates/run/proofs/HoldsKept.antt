@@ -17,7 +17,7 @@ use Rattle.format.specs.Size.{block_size}
 use Rattle.bitmap.specs.Words.{block_count, word_count}
 use Rattle.bitmap.specs.Bit.{word_at, bit}
 use Rattle.bitmap.specs.Count.{held_count}
-use Rattle.intake.specs.Private.{Sound}
+use Rattle.intake.specs.Sound.{Sound}
 use Rattle.intake.specs.Memory.{Memory, block_at, with_block}
 use Rattle.intake.specs.Open.{Opening, cleared}
 use Rattle.intake.specs.Equal.{equal}

@@ -19,7 +19,7 @@ use Rattle.row.specs.Record.{read_record}
 use Rattle.row.specs.Slot.{slot_text}
 use Rattle.page.specs.declared.Row.{Row}
 use Rattle.bitmap.specs.Bit.{bit}
-use Rattle.intake.specs.Private.{Sound}
+use Rattle.intake.specs.Sound.{Sound}
 use Rattle.intake.specs.Memory.{Memory, block_at}
 use Rattle.directory.specs.Header.{header_holds}
 use Rattle.directory.proofs.GoodHeader.{good_header}

@@ -21,7 +21,7 @@ use Rattle.table.specs.Table.{slot_count}
 use Rattle.row.specs.Slot.{slot_text}
 use Rattle.page.specs.declared.Row.{Row}
 use Rattle.page.specs.Found.{Rows, place_of, places, no_row}
-use Rattle.intake.specs.Private.{Sound}
+use Rattle.intake.specs.Sound.{Sound}
 use Rattle.intake.specs.Memory.{Memory}
 use Rattle.chain.specs.Walk.{Walk, full, waiting}
 use Rattle.chain.specs.Found.{Found, then_found}

@@ -11,7 +11,7 @@ use Rattle.lists.proofs.Choice.{never}
 use Rattle.refusal.specs.Answer.{Answer, given, refused, fault_in}
 use Rattle.bitmap.specs.Count.{held_count}
 use Rattle.intake.specs.Memory.{Memory}
-use Rattle.intake.specs.Private.{Sound}
+use Rattle.intake.specs.Sound.{Sound}
 use Rattle.intake.specs.Deliver.{Delivery, delivery}
 use Rattle.intake.specs.Packet.{PacketOutcome, deliveries_in, after_each, results_of_each, settled_packet, packet}
 use Rattle.intake.proofs.PacketFold.{packet_settled}

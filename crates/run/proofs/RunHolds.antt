@@ -7,7 +7,7 @@ use mathlib.Core.Path.{◌≡◌}
 use mathlib.Core.List.{List, [], ◌∷◌}
 use Prim.Native.Nat.{ℕ}
 use Rattle.intake.specs.Memory.{Memory}
-use Rattle.intake.specs.Private.{Sound}
+use Rattle.intake.specs.Sound.{Sound}
 use Rattle.run.specs.Received.{Received, receive_each}
 use Rattle.run.specs.Holds.{Holds}
 use Rattle.run.specs.Call.{Call, deliver, deliver_packet, ask, deliveries_of}

@@ -8,7 +8,7 @@ use lib.Dec.{ltb}
 use Rattle.refusal.specs.Answer.{Answer, given, refused, and_then}
 use Rattle.table.specs.declared.Table.{Table}
 use Rattle.table.specs.Table.{table_of, slot_count}
-use Rattle.intake.specs.Private.{Sound}
+use Rattle.intake.specs.Sound.{Sound}
 use Rattle.intake.specs.Memory.{Memory}
 use Rattle.table_walk.specs.Asked.{asked_table, with_slot, asked_slot}
 use Rattle.intake.proofs.RulesPassed.{call_given, call_passes}

@@ -19,7 +19,7 @@ use Rattle.number.specs.Number.{byte_at}
 use Rattle.intake.specs.Length.{allowed_length, longest}
 use Rattle.bitmap.specs.Words.{block_count}
 use Rattle.bitmap.specs.Bit.{bit}
-use Rattle.intake.specs.Private.{Sound}
+use Rattle.intake.specs.Sound.{Sound}
 use Rattle.intake.specs.Memory.{Memory, block_at}
 use Rattle.chain.specs.Held.{blocks_in_page, block_missing, page_held}
 use Rattle.chain.specs.File.{page_part}

@@ -16,7 +16,7 @@ use Rattle.table.specs.declared.Table.{Table}
 use Rattle.page.specs.Header.{next_page}
 use Rattle.page.specs.Read.{read_page}
 use Rattle.bitmap.specs.Bit.{bit}
-use Rattle.intake.specs.Private.{Sound}
+use Rattle.intake.specs.Sound.{Sound}
 use Rattle.intake.specs.Memory.{Memory, block_at}
 use Rattle.directory.specs.declared.Chain.{Chain}
 use Rattle.directory.specs.Chain.{table_chain}

@@ -12,4 +12,4 @@ pub returns : goal.returns
 unfolding stored with_bit
 returns c =
     let shift = shl_exact {a = 1} 1 (c.args.block % 64) 64 (omega arith) (omega arith) in
-    rw (c.copy_from_slice.ensures.after, put_block c.args.image.now c.args.block c.args.piece.now, shift, one-mul)
+    rw (c.copy.ensures, put_block c.args.image.now c.args.block c.args.piece.now, shift, one-mul)
