@@ -10,7 +10,7 @@ ghost use Rattle.desk_commands.specs.Run.{Reached, Ran, command_bytes, after_byt
 ghost use Rattle.desk_commands.specs.Reading.{RanAll};
 ghost use Rattle.desk_commands.specs.Private.{len_next, Left, LeftAfter, Follows, Turned, Fills};
 
-use desk_steps::{Command, DecodeError, Reply};
+use desk_steps::{Command, ErrorLine, Reply};
 use intake::Intake;
 use refusal::Refusal;
 use std::io;
@@ -31,14 +31,6 @@ fn say_reply<W: Write>(out: &mut W, reply: Result<Reply, Refusal>, list: &[u32])
             say_rows(out, list, found.rows())
         }
         Err(refusal) => writeln!(out, "{refusal}"),
-    }
-}
-
-// Writes the line for bytes that are no command, in one piece: so no write follows one that may end the run.
-fn say_error<W: Write>(out: &mut W, error: DecodeError) -> io::Result<()> {
-    match error {
-        DecodeError::Unknown => writeln!(out, "kind"),
-        DecodeError::Cut => writeln!(out, "cut"),
     }
 }
 
@@ -66,7 +58,8 @@ fn answer<W: Write>(
             Ok(Some(stepped.intake))
         }
         Err(error) => {
-            say_error(out, error)?;
+            let line = ErrorLine { error };
+            write!(out, "{line}")?;
             Ok(None)
         }
     }

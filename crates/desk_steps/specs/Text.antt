@@ -10,6 +10,10 @@ abbrev pub error_text : DecodeError → List ℕ
 error_text Unknown = codes "kind"
 error_text Cut = codes "cut"
 
+-- the same with the end of the line
+abbrev pub error_line_text : DecodeError → List ℕ
+error_line_text error = error_text error ++ codes "\n"
+
 -- how many rows were found on how many pages
 abbrev pub rows_text : (rows pages : ℕ) → List ℕ
 rows_text rows pages = codes " rows " ++ decimal rows ++ codes " pages " ++ decimal pages

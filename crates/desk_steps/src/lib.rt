@@ -6,7 +6,7 @@ ghost use Rattle.lists.specs.Alias.{Places};
 ghost use Rattle.desk_steps.specs.Command.{open_file, deliver_block, ask_table, number_size, body_size, decoded, command_of, decoded_of};
 ghost use Rattle.desk_steps.specs.State.{state};
 ghost use Rattle.desk_steps.specs.Step.{rows_in, line_of, step_outcome, reply_of, step, stepped_of, DeliveredLine, WalkedLine};
-ghost use Rattle.desk_steps.specs.Text.{reply_text, error_text};
+ghost use Rattle.desk_steps.specs.Text.{reply_text, error_text, error_line_text};
 
 use chain::Walked;
 use format::Block;
@@ -42,6 +42,23 @@ impl fmt::Display for DecodeError {
 }
 
 impl Error for DecodeError {}
+
+// The whole line for bytes that are no command. It is one piece, so that no write follows one that may end the run.
+#[derive(Clone, Copy, Debug, PartialEq, Eq)]
+pub struct ErrorLine {
+    pub error: DecodeError,
+}
+
+impl fmt::Display for ErrorLine {
+    ghost output = { λ line. Some (error_line_text line.error) };
+
+    fn fmt<W: fmt::Write>(&self, f: &mut fmt::Formatter<W>) -> fmt::Result {
+        match self.error {
+            DecodeError::Unknown => write!(f, "kind\n"),
+            DecodeError::Cut => write!(f, "cut\n"),
+        }
+    }
+}
 
 // What a command answers where it is not refused, by the numbers of its line.
 #[derive(Clone, Copy, Debug, PartialEq, Eq)]

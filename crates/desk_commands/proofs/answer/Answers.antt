@@ -10,7 +10,7 @@ returns-in_err-say_reply-in-Ok-clause-err g c =
     left_after s (command_bytes c.args.kind c.args.body.now) _
     (after_whole s c.args.kind c.args.body.now c.in-Ok.command c.in-Ok.ensures c.step-stepped.result c.step-stepped.ensures)
 
-pub returns-in_err-say_error-in-Err-clause-err : goal.returns-in_err-say_error-in-Err-clause-err
-returns-in_err-say_error-in-Err-clause-err g c =
+pub returns-in_err-write-in-Err-clause-err : goal.returns-in_err-write-in-Err-clause-err
+returns-in_err-write-in-Err-clause-err g c =
     let s = state c.args.intake.len c.args.image.now c.args.map.now c.args.list.now in
     left_after s (command_bytes c.args.kind c.args.body.now) _ (after_none s c.args.kind c.args.body.now c.in-Err.error c.in-Err.ensures)
